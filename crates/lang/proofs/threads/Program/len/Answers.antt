@@ -1,0 +1,7 @@
+use native.Mathlib.Omega.{arith}
+use Rattle.lang.specs.Parts.{body}
+use Rattle.lang.proofs.Used.{length-used-map}
+use Rattle.lang.proofs.threads.Program.len.Needs as need
+
+pub returns : need.returns
+returns c = (length-used-map body (c .args .self .now .threads) (c .args .self .now .len) (omega arith), (omega arith, omega arith))

@@ -1,0 +1,140 @@
+//! Threads and programs, made and read.
+ghost use mathlib.Core.Path.{_≡_};
+ghost use mathlib.Core.List.{[], _∷_, _++_};
+ghost use Prim.Native.Nat.{_+_, _<_, _≤_};
+ghost use mathlib.Core.Bool.{cond};
+ghost use lib.Dec.{ltb};
+ghost use lib.ListN.{length};
+ghost use Rattle.std.specs.shelf.Maps.{nth};
+ghost use Rattle.std.specs.declared.option.Option.the-variants.{Some, None};
+ghost use Rattle.std.specs.declared.result.Result.the-variants.{Ok, Err};
+ghost use Rattle.lang.specs.Parts.{body, bodies, statement-at, statement-count, event-number, location-index, register-index};
+use super::syntax::*;
+use super::threads::*;
+
+/// There is no room for one more.
+#[derive(Clone, Copy, PartialEq, Eq, Debug)]
+pub struct Full;
+
+impl Location {
+    /// x is 0, y is 1, z is 2, w is 3.
+    pub fn index(self) -> usize
+        ensures { λ r. ⌜ r ≡ location-index self ⌝ }
+    {
+        self as usize
+    }
+}
+
+impl Register {
+    /// r0 is 0 and so on.
+    pub fn index(self) -> usize
+        ensures { λ r. ⌜ r ≡ register-index self ⌝ }
+    {
+        self as usize
+    }
+}
+
+impl Thread {
+    /// A thread of one statement.
+    pub fn new(first: Statement) -> Thread
+        ensures { λ r. ⌜ body r ≡ first ∷ [] ⌝ }
+    {
+        Thread {
+            statements: [first; MAX_STATEMENTS],
+            len: 1,
+        }
+    }
+
+    /// Adds a statement at the end; a thread of eight takes no more and stays as it is.
+    pub fn push(&mut self, statement: Statement) -> Result<(), Full>
+        ensures { λ r. ⌜ elim r [ Ok _ ↦ (length (body (now (self .entry))) < 8) × (body (now (self .exit)) ≡ body (now (self .entry)) ++ (statement ∷ [])) | Err _ ↦ (length (body (now (self .entry))) ≡ 8) × (now (self .exit) ≡ now (self .entry)) ] ⌝ }
+    {
+        if self.len == MAX_STATEMENTS {
+            return Err(Full);
+        }
+        self.statements[self.len] = statement;
+        self.len += 1;
+        Ok(())
+    }
+
+    /// The number of statements, 1 to 8.
+    pub fn len(&self) -> usize
+        ensures { λ r. ⌜ r ≡ length (body (now (self .entry))) ⌝ ∗ ⌜ 0 < r ⌝ ∗ ⌜ r ≤ 8 ⌝ }
+    {
+        self.len
+    }
+
+    /// The statement at a place, if the thread has one there.
+    pub fn statement(&self, place: usize) -> Option<Statement>
+        ensures { λ r. ⌜ r ≡ nth (body (now (self .entry))) place ⌝ }
+    {
+        if place < self.len {
+            Some(self.statements[place])
+        } else {
+            None
+        }
+    }
+}
+
+impl Program {
+    /// A program of one thread.
+    pub fn new(first: Thread) -> Program
+        ensures { λ r. ⌜ bodies r ≡ body first ∷ [] ⌝ }
+    {
+        Program {
+            threads: [first; MAX_THREADS],
+            len: 1,
+        }
+    }
+
+    /// Adds a thread at the end; a program of four takes no more and stays as it is.
+    pub fn push(&mut self, thread: Thread) -> Result<(), Full>
+        ensures { λ r. ⌜ elim r [ Ok _ ↦ (length (bodies (now (self .entry))) < 4) × (bodies (now (self .exit)) ≡ bodies (now (self .entry)) ++ (body thread ∷ [])) | Err _ ↦ (length (bodies (now (self .entry))) ≡ 4) × (now (self .exit) ≡ now (self .entry)) ] ⌝ }
+    {
+        if self.len == MAX_THREADS {
+            return Err(Full);
+        }
+        self.threads[self.len] = thread;
+        self.len += 1;
+        Ok(())
+    }
+
+    /// The number of threads, 1 to 4.
+    pub fn len(&self) -> usize
+        ensures { λ r. ⌜ r ≡ length (bodies (now (self .entry))) ⌝ ∗ ⌜ 0 < r ⌝ ∗ ⌜ r ≤ 4 ⌝ }
+    {
+        self.len
+    }
+
+    /// The number of statements of a thread; 0 where there is no such thread.
+    pub fn statements(&self, thread: usize) -> usize
+        ensures { λ r. ⌜ r ≡ statement-count (bodies (now (self .entry))) thread ⌝ ∗ ⌜ r ≤ 8 ⌝ }
+    {
+        if thread < self.len {
+            self.threads[thread].len()
+        } else {
+            0
+        }
+    }
+
+    /// The statement at a thread and a place, if there is one.
+    pub fn statement(&self, thread: usize, place: usize) -> Option<Statement>
+        ensures { λ r. ⌜ r ≡ statement-at (bodies (now (self .entry))) thread place ⌝ }
+    {
+        if thread >= self.len {
+            return None;
+        }
+        self.threads[thread].statement(place)
+    }
+
+    /// The number of the event at a thread and a place, 8 × thread + place, if there is a statement.
+    pub fn event(&self, thread: usize, place: usize) -> Option<usize>
+        ensures { λ r. ⌜ r ≡ cond (ltb place (statement-count (bodies (now (self .entry))) thread)) (Some (event-number thread place)) None ⌝ }
+    {
+        if thread < self.len && place < self.statements(thread) {
+            Some(MAX_STATEMENTS * thread + place)
+        } else {
+            None
+        }
+    }
+}
