@@ -2,12 +2,12 @@
 ghost use mathlib.Core.Path.{_≡_};
 ghost use mathlib.Core.List.{[], _∷_, _++_};
 ghost use Prim.Native.Nat.{_+_, _<_, _≤_};
-ghost use mathlib.Core.Bool.{cond};
+ghost use mathlib.Core.Bool.{false, cond};
 ghost use lib.Dec.{ltb};
 ghost use lib.ListN.{length};
 ghost use Rattle.std.specs.shelf.Maps.{nth};
 ghost use Rattle.std.specs.declared.option.Option.the-variants.{Some, None};
-ghost use Rattle.std.specs.declared.result.Result.the-variants.{Ok, Err};
+ghost use Rattle.std.specs.Results.{isOk};
 ghost use Rattle.lang.specs.Parts.{body, bodies, statement-at, statement-count, event-number, location-index, register-index};
 use super::syntax::*;
 use super::threads::*;
@@ -47,7 +47,9 @@ impl Thread {
 
     /// Adds a statement at the end; a thread of eight takes no more and stays as it is.
     pub fn push(&mut self, statement: Statement) -> Result<(), Full>
-        ensures { λ r. ⌜ elim r [ Ok _ ↦ (length (body (now (self .entry))) < 8) × (body (now (self .exit)) ≡ body (now (self .entry)) ++ (statement ∷ [])) | Err _ ↦ (length (body (now (self .entry))) ≡ 8) × (now (self .exit) ≡ now (self .entry)) ] ⌝ }
+        ensures test { λ r. ⌜ isOk r ≡ ltb (length (body (now (self .entry)))) 8 ⌝ }
+        ensures after { λ r. ⌜ body (now (self .exit)) ≡ cond (isOk r) (body (now (self .entry)) ++ (statement ∷ [])) (body (now (self .entry))) ⌝ }
+        ensures same { λ r. ⌜ (isOk r ≡ false → now (self .exit) ≡ now (self .entry)) ⌝ }
     {
         if self.len == MAX_STATEMENTS {
             return Err(Full);
@@ -59,7 +61,9 @@ impl Thread {
 
     /// The number of statements, 1 to 8.
     pub fn len(&self) -> usize
-        ensures { λ r. ⌜ r ≡ length (body (now (self .entry))) ⌝ ∗ ⌜ 0 < r ⌝ ∗ ⌜ r ≤ 8 ⌝ }
+        ensures value { λ r. ⌜ r ≡ length (body (now (self .entry))) ⌝ }
+        ensures low_bound { λ r. ⌜ 0 < r ⌝ }
+        ensures high_bound { λ r. ⌜ r ≤ 8 ⌝ }
     {
         self.len
     }
@@ -89,7 +93,9 @@ impl Program {
 
     /// Adds a thread at the end; a program of four takes no more and stays as it is.
     pub fn push(&mut self, thread: Thread) -> Result<(), Full>
-        ensures { λ r. ⌜ elim r [ Ok _ ↦ (length (bodies (now (self .entry))) < 4) × (bodies (now (self .exit)) ≡ bodies (now (self .entry)) ++ (body thread ∷ [])) | Err _ ↦ (length (bodies (now (self .entry))) ≡ 4) × (now (self .exit) ≡ now (self .entry)) ] ⌝ }
+        ensures test { λ r. ⌜ isOk r ≡ ltb (length (bodies (now (self .entry)))) 4 ⌝ }
+        ensures after { λ r. ⌜ bodies (now (self .exit)) ≡ cond (isOk r) (bodies (now (self .entry)) ++ (body thread ∷ [])) (bodies (now (self .entry))) ⌝ }
+        ensures same { λ r. ⌜ (isOk r ≡ false → now (self .exit) ≡ now (self .entry)) ⌝ }
     {
         if self.len == MAX_THREADS {
             return Err(Full);
@@ -101,14 +107,17 @@ impl Program {
 
     /// The number of threads, 1 to 4.
     pub fn len(&self) -> usize
-        ensures { λ r. ⌜ r ≡ length (bodies (now (self .entry))) ⌝ ∗ ⌜ 0 < r ⌝ ∗ ⌜ r ≤ 4 ⌝ }
+        ensures value { λ r. ⌜ r ≡ length (bodies (now (self .entry))) ⌝ }
+        ensures low_bound { λ r. ⌜ 0 < r ⌝ }
+        ensures high_bound { λ r. ⌜ r ≤ 4 ⌝ }
     {
         self.len
     }
 
     /// The number of statements of a thread; 0 where there is no such thread.
     pub fn statements(&self, thread: usize) -> usize
-        ensures { λ r. ⌜ r ≡ statement-count (bodies (now (self .entry))) thread ⌝ ∗ ⌜ r ≤ 8 ⌝ }
+        ensures value { λ r. ⌜ r ≡ statement-count (bodies (now (self .entry))) thread ⌝ }
+        ensures bound { λ r. ⌜ r ≤ 8 ⌝ }
     {
         if thread < self.len {
             self.threads[thread].len()

@@ -89,18 +89,28 @@ pub impl fmt::Display for Statement as StatementDisplay {
 
     fn fmt<W: fmt::Write>(&self, f: &mut fmt::Formatter<W>) -> fmt::Result {
         match *self {
-            Statement::Load { register, location, mode } => {
-                write!(f, "ld {register} {location} {mode}")
-            }
-            Statement::Store { location, operand, mode } => {
-                write!(f, "st {location} {operand} {mode}")
-            }
-            Statement::Exchange { register, location, operand, mode } => {
-                write!(f, "xchg {register} {location} {operand} {mode}")
-            }
-            Statement::Add { register, location, operand, mode } => {
-                write!(f, "add {register} {location} {operand} {mode}")
-            }
+            Statement::Load {
+                register,
+                location,
+                mode,
+            } => { write!(f, "ld {register} {location} {mode}") }
+            Statement::Store {
+                location,
+                operand,
+                mode,
+            } => { write!(f, "st {location} {operand} {mode}") }
+            Statement::Exchange {
+                register,
+                location,
+                operand,
+                mode,
+            } => { write!(f, "xchg {register} {location} {operand} {mode}") }
+            Statement::Add {
+                register,
+                location,
+                operand,
+                mode,
+            } => { write!(f, "add {register} {location} {operand} {mode}") }
             Statement::Fence { mode } => write!(f, "fence {mode}"),
         }
     }

@@ -39,13 +39,33 @@ pub enum Operand {
 #[derive(Clone, Copy, PartialEq, Eq, Debug)]
 pub enum Statement {
     /// The register gets what the location holds.
-    Load { register: Register, location: Location, mode: Mode },
+    Load {
+        register: Register,
+        location: Location,
+        mode: Mode,
+    },
     /// The location gets the operand.
-    Store { location: Location, operand: Operand, mode: Mode },
+    Store {
+        location: Location,
+        operand: Operand,
+        mode: Mode,
+    },
     /// The register gets what the location held, the location gets the operand.
-    Exchange { register: Register, location: Location, operand: Operand, mode: Mode },
+    Exchange {
+        register: Register,
+        location: Location,
+        operand: Operand,
+        mode: Mode,
+    },
     /// The register gets what the location held, the location gets that plus the operand, modulo 256.
-    Add { register: Register, location: Location, operand: Operand, mode: Mode },
+    Add {
+        register: Register,
+        location: Location,
+        operand: Operand,
+        mode: Mode,
+    },
     /// Orders only.
-    Fence { mode: Mode },
+    Fence {
+        mode: Mode,
+    },
 }

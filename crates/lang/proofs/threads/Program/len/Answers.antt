@@ -4,4 +4,9 @@ use Rattle.lang.proofs.Used.{length-used-map}
 use Rattle.lang.proofs.threads.Program.len.Needs as need
 
 pub returns : need.returns
-returns c = (length-used-map body (c .args .self .now .threads) (c .args .self .now .len) (omega arith), (omega arith, omega arith))
+returns c =
+    record {
+      value = length-used-map body (c .args .self .now .threads) (c .args .self .now .len) (omega arith);
+      low-bound = omega arith;
+      high-bound = omega arith;
+    }

@@ -5,8 +5,11 @@ use Rattle.lang.proofs.threads.Program.statements.Needs as need
 
 pub returns-then-thread-self : need.returns-then-thread-self
 returns-then-thread-self c =
-    (c .len .ensures .0 ∙ count-used (c .args .self .now .threads) (c .args .self .now .len) (c .args .thread) _ (omega arith) (omega arith), omega arith)
+    record {
+      value = c .len .ensures .value ∙ count-used (c .args .self .now .threads) (c .args .self .now .len) (c .args .thread) _ (omega arith) (omega arith);
+      bound = c .len .ensures .high-bound;
+    }
 
 pub returns-else-thread-self : need.returns-else-thread-self
 returns-else-thread-self c =
-    (count-unused (c .args .self .now .threads) (c .args .self .now .len) (c .args .thread) (omega arith), omega arith)
+    record { value = count-unused (c .args .self .now .threads) (c .args .self .now .len) (c .args .thread) (omega arith); bound = omega arith }

@@ -4,4 +4,9 @@ use Rattle.std.proofs.shelf.Lists.{length-take-le}
 use Rattle.lang.proofs.threads.Thread.len.Needs as need
 
 pub returns : need.returns
-returns c = (sym (length-take-le (c .args .self .now .len) (c .args .self .now .statements) (omega arith)), (omega arith, omega arith))
+returns c =
+    record {
+      value = sym (length-take-le (c .args .self .now .len) (c .args .self .now .statements) (omega arith));
+      low-bound = omega arith;
+      high-bound = omega arith;
+    }

@@ -1,0 +1,9 @@
+pub mod Bytes
+pub mod Each
+pub mod Names
+pub mod Right
+pub mod Rows
+pub mod Slots
+pub mod Spans
+pub mod Statements
+pub mod Theorem

@@ -1,0 +1,45 @@
+use mathlib.Core.Path.{_≡_, sym, ap, _∙_}
+use mathlib.Core.Logic.{_⊎_, inl, inr}
+use mathlib.Core.List.{List}
+use Prim.Native.Nat.{ℕ, _<_, _≤_}
+use native.Mathlib.Omega.{arith}
+use denote.Ref.{RefT, now}
+use lib.ListN.{length}
+use Rattle.std.proofs.shelf.Results.{err-from-errBy}
+use Rattle.std.proofs.shelf.Tests.{eqb-true, eqb-false}
+use Rattle.std.specs.declared.result.Result.{Result}
+use Rattle.lang.specs.declared.faults.Fault.{Fault}
+use Rattle.lang.specs.declared.faults.Fault.the-variants.{FifthLine}
+use Rattle.grammar.specs.Answer.{and-then, read-each, read-thread, read-threads, read-bytes}
+use Rattle.grammar.proofs.Theorem.{answer-length, answer-bytes, right-if}
+use Rattle.reader.specs.Sight.{lines-from}
+use Rattle.reader.proofs.read.Needs as need
+
+pub returns-then-is-empty : need.returns-then-is-empty
+returns-then-is-empty c =
+    let wrong : (length (c .args .text .now) ≡ 0) ⊎ (2048 < length (c .args .text .now)) =
+    elim (c .then-is-empty .either) [ inl e ↦ inl (eqb-true _ _ (sym (c .is-empty .ensures) ∙ e)) | inr e ↦ inr (e .1) ] in
+    let value = sym (answer-length (c .args .text .now) wrong) in
+    record { value = value; right = right-if _ _ value }
+
+pub returns-in-Break-check-bytes : need.returns-in-Break-check-bytes
+returns-in-Break-check-bytes c =
+    let text : List ℕ = c .args .text .now in
+    let some : 0 < length text = omega (arith, eqb-false _ _ (sym (c .if-is-empty .ensures tt))) in
+    let value =
+    ap (λ (r : Result (Unit {0}) Fault). and-then r (λ _. read-threads text)) (c .in-Break-check-bytes .ensures tt)
+    ∙ sym (answer-bytes text some (c .if-text-gt-MAX-TEXT .left)) in
+    let p = err-from-errBy (c .from-residual .result) (c .from-residual .ensures .1) in
+    rw (p .1, p .2) record { value = value; right = right-if _ _ value }
+
+pub returns : need.returns
+returns c =
+    let text : List ℕ = c .args .text .now in
+    let some : 0 < length text = omega (arith, eqb-false _ _ (sym (c .if-is-empty .ensures tt))) in
+    let value =
+    c .program .ensures .value
+    ∙ ap (λ n. read-each 4 FifthLine read-thread (lines-from (now (c .new .result .text)) n)) (c .new .ensures .0)
+    ∙ ap (λ (t : RefT (List ℕ)). read-each 4 FifthLine read-thread (lines-from (now t) 0)) (c .new .ensures .1)
+    ∙ ap (λ (r : Result (Unit {0}) Fault). and-then r (λ _. read-threads text)) (c .in-Continue-check-bytes .ensures tt)
+    ∙ sym (answer-bytes text some (c .if-text-gt-MAX-TEXT .left)) in
+    record { value = value; right = right-if _ _ value }
