@@ -14,8 +14,8 @@ use Rattle.std.specs.declared.option.Option.the-variants.{Some}
 use Rattle.std.specs.declared.result.Result.{Result}
 use Rattle.std.specs.declared.result.Result.the-variants.{Ok, Err}
 use Rattle.std.proofs.shelf.Tests.{cases-lt}
-use Rattle.lang.specs.declared.faults.Fault.{Fault}
-use Rattle.lang.specs.Refusals.{refusal}
+use Rattle.faults.specs.declared.Fault.{Fault}
+use Rattle.faults.specs.Refusals.{refusal}
 use Rattle.grammar.specs.Pieces.{Piece, end}
 use Rattle.grammar.specs.Texts.{Pairwise, none, more, Spells-each, Faults, inside, too-many, No-later}
 use Rattle.grammar.specs.Answer.{and-then, read-each}

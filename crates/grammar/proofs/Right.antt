@@ -5,9 +5,9 @@ use Prim.Native.Nat.{ℕ, _≤_}
 use lib.Dec.{eqb}
 use Rattle.std.specs.declared.result.Result.{Result}
 use Rattle.std.specs.declared.result.Result.the-variants.{Ok, Err}
-use Rattle.lang.specs.declared.faults.Fault.{Fault}
-use Rattle.lang.specs.declared.faults.Fault.the-variants.{FifthLine, NinthStatement, WrongWord, WrongMode, LargeNumber}
-use Rattle.lang.specs.Refusals.{refusal}
+use Rattle.faults.specs.declared.Fault.{Fault}
+use Rattle.faults.specs.declared.Fault.the-variants.{FifthLine, NinthStatement, WrongWord, WrongMode, LargeNumber}
+use Rattle.faults.specs.Refusals.{refusal}
 use Rattle.grammar.specs.Pieces.{Piece, end}
 use Rattle.grammar.specs.Texts.{No-later}
 

@@ -15,9 +15,9 @@ use Rattle.std.specs.shelf.Lists.{All}
 use Rattle.std.specs.declared.option.Option.the-variants.{Some}
 use Rattle.std.specs.declared.result.Result.{Result}
 use Rattle.std.specs.declared.result.Result.the-variants.{Ok, Err}
-use Rattle.lang.specs.declared.faults.Fault.{Fault}
-use Rattle.lang.specs.declared.faults.Fault.the-variants.{WrongWord}
-use Rattle.lang.specs.Refusals.{refusal}
+use Rattle.faults.specs.declared.Fault.{Fault}
+use Rattle.faults.specs.declared.Fault.the-variants.{WrongWord}
+use Rattle.faults.specs.Refusals.{refusal}
 use Rattle.grammar.specs.Pieces.{Piece, end}
 use Rattle.grammar.specs.Table.{Slot, Refused-word}
 use Rattle.grammar.specs.Texts.{No-later}

@@ -22,10 +22,10 @@ use Rattle.lang.specs.declared.syntax.Register.{Register}
 use Rattle.lang.specs.declared.syntax.Register.the-variants.{R0, R1, R2, R3}
 use Rattle.lang.specs.declared.syntax.Operand.{Operand}
 use Rattle.lang.specs.declared.syntax.Operand.the-variants.{Held, Value}
-use Rattle.lang.specs.declared.faults.Fault.{Fault}
-use Rattle.lang.specs.declared.faults.Fault.the-variants.{WrongWord, WrongMode, LargeNumber}
+use Rattle.faults.specs.declared.Fault.{Fault}
+use Rattle.faults.specs.declared.Fault.the-variants.{WrongWord, WrongMode, LargeNumber}
 use Rattle.lang.specs.Spelling.{mode-name, location-name, register-name}
-use Rattle.lang.specs.Refusals.{refusal}
+use Rattle.faults.specs.Refusals.{refusal}
 use Rattle.grammar.specs.declared.kinds.Kind.{Kind}
 use Rattle.grammar.specs.Pieces.{Piece}
 use Rattle.grammar.specs.Table.{kind-name, takes, number, Spells-operand, held, value, Slot, a-kind, a-register, a-location, a-value, a-mode, Refused-word, no-kind, no-register, no-location, no-value, large-value, no-mode, other-mode}

@@ -11,8 +11,8 @@ use Rattle.std.specs.declared.option.Option.{Option}
 use Rattle.std.specs.declared.option.Option.the-variants.{Some, None}
 use Rattle.lang.specs.declared.syntax.Statement.{Statement}
 use Rattle.lang.specs.declared.syntax.Statement.the-variants.{Load, Store, Exchange, Add, Fence}
-use Rattle.lang.specs.declared.faults.Fault.{Fault}
-use Rattle.lang.specs.declared.faults.Fault.the-variants.{WrongWord}
+use Rattle.faults.specs.declared.Fault.{Fault}
+use Rattle.faults.specs.declared.Fault.the-variants.{WrongWord}
 use Rattle.lang.specs.Spelling.{location-name, register-name}
 use Rattle.grammar.specs.declared.kinds.Kind.{Kind}
 use Rattle.grammar.specs.declared.kinds.Kind.the-variants.{Load as Ld, Store as St, Exchange as Xchg, Add as Sum, Fence as Bar}

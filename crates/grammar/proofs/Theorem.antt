@@ -13,9 +13,9 @@ use Rattle.std.specs.declared.result.Result.{Result}
 use Rattle.std.specs.declared.result.Result.the-variants.{Ok, Err}
 use Rattle.std.proofs.shelf.Tests.{cases-lt, lt-ltb, le-ltb, le-leb, lt-leb}
 use Rattle.lang.specs.declared.syntax.Statement.{Statement}
-use Rattle.lang.specs.declared.faults.Fault.{Fault}
-use Rattle.lang.specs.declared.faults.Fault.the-variants.{TextLength, ForeignByte, FifthLine, NinthStatement}
-use Rattle.lang.specs.Refusals.{refusal}
+use Rattle.faults.specs.declared.Fault.{Fault}
+use Rattle.faults.specs.declared.Fault.the-variants.{TextLength, ForeignByte, FifthLine, NinthStatement}
+use Rattle.faults.specs.Refusals.{refusal}
 use Rattle.grammar.specs.Pieces.{Piece, piece, lines, statements}
 use Rattle.grammar.specs.Texts.{Spells-thread, Spells, All-permitted, Accepts, Thread-fault, Text-fault, No-later, Refuses, length-wrong, byte-wrong, text-wrong, Right}
 use Rattle.grammar.specs.Answer.{read-thread, read-threads, read-bytes, answer}

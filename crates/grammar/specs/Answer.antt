@@ -19,8 +19,8 @@ use Rattle.lang.specs.declared.syntax.Operand.{Operand}
 use Rattle.lang.specs.declared.syntax.Operand.the-variants.{Held, Value}
 use Rattle.lang.specs.declared.syntax.Statement.{Statement}
 use Rattle.lang.specs.declared.syntax.Statement.the-variants.{Load, Store, Exchange, Add, Fence}
-use Rattle.lang.specs.declared.faults.Fault.{Fault}
-use Rattle.lang.specs.declared.faults.Fault.the-variants.{TextLength, ForeignByte, FifthLine, NinthStatement, WrongWord, WrongMode, LargeNumber}
+use Rattle.faults.specs.declared.Fault.{Fault}
+use Rattle.faults.specs.declared.Fault.the-variants.{TextLength, ForeignByte, FifthLine, NinthStatement, WrongWord, WrongMode, LargeNumber}
 use Rattle.lang.specs.Spelling.{mode-name, location-name, register-name}
 use Rattle.grammar.specs.declared.kinds.Kind.{Kind}
 use Rattle.grammar.specs.declared.kinds.Kind.the-variants.{Load as Ld, Store as St, Exchange as Xchg, Add as Sum, Fence as Bar}

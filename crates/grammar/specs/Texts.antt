@@ -11,9 +11,9 @@ use Rattle.std.specs.declared.option.Option.the-variants.{Some}
 use Rattle.std.specs.declared.result.Result.{Result}
 use Rattle.std.specs.declared.result.Result.the-variants.{Ok, Err}
 use Rattle.lang.specs.declared.syntax.Statement.{Statement}
-use Rattle.lang.specs.declared.faults.Fault.{Fault}
-use Rattle.lang.specs.declared.faults.Fault.the-variants.{TextLength, ForeignByte, FifthLine, NinthStatement}
-use Rattle.lang.specs.Refusals.{refusal}
+use Rattle.faults.specs.declared.Fault.{Fault}
+use Rattle.faults.specs.declared.Fault.the-variants.{TextLength, ForeignByte, FifthLine, NinthStatement}
+use Rattle.faults.specs.Refusals.{refusal}
 use Rattle.grammar.specs.Pieces.{Piece, SPACE, SEMICOLON, LF, lines, statements, words}
 use Rattle.grammar.specs.Table.{Spells-statement, Statement-fault}
 

@@ -1,7 +1,7 @@
 //! What a statement's first word can say.
 
 /// Which statement it is.
-#[derive(Clone, Copy, PartialEq, Eq, Debug)]
+#[derive(Clone, Copy, PartialEq, Eq)]
 pub enum Kind {
     Load,
     Store,

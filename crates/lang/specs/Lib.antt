@@ -1,3 +1,2 @@
-pub mod Parts
-pub mod Refusals
+pub mod Numbering
 pub mod Spelling

@@ -1,6 +1,4 @@
-//! The language: statements, threads and programs, and the faults with which calls refuse.
-pub mod faults;
-pub mod parts;
+//! The language: what a statement is made of, and how it is written.
+pub mod numbering;
 pub mod spelling;
 pub mod syntax;
-pub mod threads;

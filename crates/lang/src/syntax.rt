@@ -1,7 +1,7 @@
 //! What a statement is made of.
 
 /// How strongly an access or a fence orders others.
-#[derive(Clone, Copy, PartialEq, Eq, Debug)]
+#[derive(Clone, Copy, PartialEq, Eq)]
 pub enum Mode {
     Relaxed,
     Acquire,
@@ -11,7 +11,7 @@ pub enum Mode {
 }
 
 /// A shared memory cell.
-#[derive(Clone, Copy, PartialEq, Eq, Debug)]
+#[derive(Clone, Copy, PartialEq, Eq)]
 pub enum Location {
     X,
     Y,
@@ -20,7 +20,7 @@ pub enum Location {
 }
 
 /// A register; each thread has four of its own, which start at 0.
-#[derive(Clone, Copy, PartialEq, Eq, Debug)]
+#[derive(Clone, Copy, PartialEq, Eq)]
 pub enum Register {
     R0,
     R1,
@@ -29,14 +29,14 @@ pub enum Register {
 }
 
 /// What a statement stores or adds: a register's value or a number.
-#[derive(Clone, Copy, PartialEq, Eq, Debug)]
+#[derive(Clone, Copy, PartialEq, Eq)]
 pub enum Operand {
     Held(Register),
     Value(u8),
 }
 
 /// One step of a thread. An operand is read before the register is changed.
-#[derive(Clone, Copy, PartialEq, Eq, Debug)]
+#[derive(Clone, Copy, PartialEq, Eq)]
 pub enum Statement {
     /// The register gets what the location holds.
     Load {

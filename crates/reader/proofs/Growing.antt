@@ -8,7 +8,7 @@ use lib.ListN.{length}
 use Rattle.std.proofs.shelf.Lists.{append-nil, append-assoc, length-push}
 use Rattle.std.specs.declared.result.Result.{Result}
 use Rattle.std.specs.declared.result.Result.the-variants.{Ok, Err}
-use Rattle.lang.specs.declared.faults.Fault.{Fault}
+use Rattle.faults.specs.declared.Fault.{Fault}
 use Rattle.grammar.specs.Pieces.{Piece}
 use Rattle.grammar.specs.Answer.{and-then, read-each}
 use Rattle.reader.specs.Sight.{reading}

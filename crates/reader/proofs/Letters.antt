@@ -14,7 +14,7 @@ use Rattle.lang.specs.declared.syntax.Location.{Location}
 use Rattle.lang.specs.declared.syntax.Location.the-variants.{X, Y, Z, W}
 use Rattle.lang.specs.declared.syntax.Register.{Register}
 use Rattle.lang.specs.declared.syntax.Register.the-variants.{R0, R1, R2, R3}
-use Rattle.lang.specs.declared.faults.Fault.the-variants.{WrongWord}
+use Rattle.faults.specs.declared.Fault.the-variants.{WrongWord}
 use Rattle.lang.specs.Spelling.{location-name, register-name}
 use Rattle.grammar.specs.Pieces.{piece}
 use Rattle.grammar.specs.Answer.{named, known, register-of, read-location}

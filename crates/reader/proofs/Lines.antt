@@ -13,8 +13,8 @@ use Rattle.std.proofs.shelf.Lists.{drop-drop, drop-more, drop-all, at-drop-more
 use Rattle.std.proofs.shelf.Tests.{cases-lt, eqb-true}
 use Rattle.std.specs.declared.result.Result.the-variants.{Ok, Err}
 use Rattle.lang.specs.declared.syntax.Statement.{Statement}
-use Rattle.lang.specs.declared.faults.Fault.{Fault}
-use Rattle.lang.specs.declared.faults.Fault.the-variants.{FifthLine}
+use Rattle.faults.specs.declared.Fault.{Fault}
+use Rattle.faults.specs.declared.Fault.the-variants.{FifthLine}
 use Rattle.grammar.specs.Answer.{read-each, read-thread}
 use Rattle.grammar.specs.Pieces.{Piece, piece, widened, split, closed, LF}
 use Rattle.reader.specs.Sight.{before, ends-line, rest-of-line, line-end, lines-from, lines-past, lines-after, Headed, reading}

@@ -8,8 +8,8 @@ use lib.ListN.{length, getD}
 use Rattle.std.specs.declared.result.Result.{Result}
 use Rattle.std.specs.declared.result.Result.the-variants.{Ok, Err}
 use Rattle.lang.specs.declared.syntax.Statement.{Statement}
-use Rattle.lang.specs.declared.faults.Fault.{Fault}
-use Rattle.lang.specs.declared.faults.Fault.the-variants.{NinthStatement}
+use Rattle.faults.specs.declared.Fault.{Fault}
+use Rattle.faults.specs.declared.Fault.the-variants.{NinthStatement}
 use Rattle.grammar.specs.Pieces.{SEMICOLON, statements}
 use Rattle.grammar.specs.Answer.{read-statement, read-thread}
 use Rattle.reader.specs.Sight.{rest-of-line, rest-of-statement, statement-end, line-end, statements-after, reading}

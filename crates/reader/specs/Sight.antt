@@ -8,7 +8,7 @@ use lib.ListN.{length, drop}
 use Rattle.std.specs.declared.result.Result.{Result}
 use Rattle.std.specs.declared.result.Result.the-variants.{Ok, Err}
 use Rattle.lang.specs.declared.syntax.Statement.{Statement}
-use Rattle.lang.specs.declared.faults.Fault.{Fault}
+use Rattle.faults.specs.declared.Fault.{Fault}
 use Rattle.grammar.specs.Answer.{next, and-then, read-each}
 use Rattle.grammar.specs.Pieces.{Piece, piece, end, split, closed, words, SPACE, SEMICOLON, LF}
 

@@ -6,12 +6,12 @@ mod threads;
 mod words;
 
 ghost use mathlib.Core.Path.{_≡_};
-ghost use Rattle.lang.specs.Parts.{bodies};
+ghost use Rattle.programs.specs.Parts.{bodies};
 ghost use Rattle.grammar.specs.Answer.{answer, foreign, no-foreign};
 ghost use Rattle.grammar.specs.Texts.{permitted, seen, Right};
 use cursor::Cursor;
-use lang::faults::Fault;
-use lang::threads::Program;
+use faults::Fault;
+use programs::threads::Program;
 
 /// The most bytes that a text has.
 pub const MAX_TEXT: usize = 2048;

@@ -4,11 +4,11 @@ ghost use mathlib.Core.List.{[], _∷_};
 ghost use Prim.Native.Nat.{_+_, _<_, _≤_};
 ghost use lib.ListN.{length, getD, drop};
 ghost use Rattle.std.specs.declared.result.Result.the-variants.{Ok, Err};
-ghost use Rattle.lang.specs.declared.faults.Fault.the-variants.{WrongWord};
+ghost use Rattle.faults.specs.declared.Fault.the-variants.{WrongWord};
 ghost use Rattle.grammar.specs.Pieces.{piece};
 ghost use Rattle.reader.specs.Sight.{before, ends-word, words-left, statement-end};
 use super::cursor::*;
-use lang::faults::Fault;
+use faults::Fault;
 
 /// If a byte ends a word: a space, or a separator.
 fn ends_word(byte: u8) -> bool

@@ -12,7 +12,7 @@ ghost use Rattle.grammar.specs.declared.kinds.Kind.the-variants.{Load, Store, E
 use super::cursor::*;
 use super::words;
 use grammar::kinds::*;
-use lang::faults::Fault;
+use faults::Fault;
 use lang::syntax::*;
 
 impl<'a> Cursor<'a> {

@@ -5,14 +5,14 @@ ghost use Prim.Native.Nat.{_+_, _<_, _≤_};
 ghost use lib.ListN.{length, getD, drop};
 ghost use Rattle.std.specs.Orderings.{When};
 ghost use Rattle.std.specs.Results.{isOk};
-ghost use Rattle.lang.specs.Parts.{body, bodies};
-ghost use Rattle.lang.specs.declared.faults.Fault.the-variants.{NinthStatement, FifthLine};
+ghost use Rattle.programs.specs.Parts.{body, bodies};
+ghost use Rattle.faults.specs.declared.Fault.the-variants.{NinthStatement, FifthLine};
 ghost use Rattle.grammar.specs.Answer.{read-statement, read-thread, read-each};
 ghost use Rattle.reader.specs.Sight.{ends-statement, ends-line, rest-of-line, line-end, statements-after, lines-from, lines-after, Headed, reading};
 ghost use Rattle.grammar.specs.Texts.{seen};
 use super::cursor::*;
-use lang::faults::Fault;
-use lang::threads::*;
+use faults::Fault;
+use programs::threads::*;
 
 impl<'a> Cursor<'a> {
     /// Passes over a byte, if it stands here.

@@ -10,7 +10,7 @@ ghost use Rattle.grammar.specs.Table.{number};
 ghost use Rattle.grammar.specs.Answer.{register-of, mode-of, moded, read-kind, read-register, read-location, read-operand, read-mode, read-number};
 use super::cursor::*;
 use grammar::kinds::*;
-use lang::faults::Fault;
+use faults::Fault;
 use lang::syntax::*;
 
 /// The largest number that a statement can write.

@@ -8,8 +8,8 @@ use lib.ListN.{length}
 use Rattle.std.proofs.shelf.Results.{err-from-errBy}
 use Rattle.std.proofs.shelf.Tests.{eqb-true, eqb-false}
 use Rattle.std.specs.declared.result.Result.{Result}
-use Rattle.lang.specs.declared.faults.Fault.{Fault}
-use Rattle.lang.specs.declared.faults.Fault.the-variants.{FifthLine}
+use Rattle.faults.specs.declared.Fault.{Fault}
+use Rattle.faults.specs.declared.Fault.the-variants.{FifthLine}
 use Rattle.grammar.specs.Answer.{and-then, read-each, read-thread, read-threads, read-bytes}
 use Rattle.grammar.proofs.Theorem.{answer-length, answer-bytes, right-if}
 use Rattle.reader.specs.Sight.{lines-from}

@@ -10,9 +10,9 @@ use Rattle.std.specs.Results.{isOk}
 use Rattle.std.specs.declared.result.Result.{Result}
 use Rattle.std.specs.declared.result.Result.the-variants.{Ok, Err}
 use Rattle.lang.specs.declared.syntax.Statement.{Statement}
-use Rattle.lang.specs.declared.faults.Fault.{Fault}
-use Rattle.lang.specs.declared.faults.Fault.the-variants.{FifthLine}
-use Rattle.lang.specs.Parts.{body, bodies}
+use Rattle.faults.specs.declared.Fault.{Fault}
+use Rattle.faults.specs.declared.Fault.the-variants.{FifthLine}
+use Rattle.programs.specs.Parts.{body, bodies}
 use Rattle.grammar.specs.Pieces.{LF}
 use Rattle.grammar.specs.Answer.{read-thread}
 use Rattle.reader.specs.Sight.{ends-line, rest-of-line, line-end, lines-after, Headed, reading}

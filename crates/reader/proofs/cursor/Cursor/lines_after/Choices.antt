@@ -2,8 +2,8 @@ use mathlib.Core.Path.{_≡_}
 use Prim.Native.Nat.{_-_}
 use lib.ListN.{length, drop}
 use denote.Ref.{now}
-use Rattle.lang.specs.declared.faults.Fault.the-variants.{FifthLine}
-use Rattle.lang.specs.Parts.{bodies}
+use Rattle.faults.specs.declared.Fault.the-variants.{FifthLine}
+use Rattle.programs.specs.Parts.{bodies}
 use Rattle.grammar.specs.Answer.{read-thread}
 use Rattle.reader.specs.Sight.{ends-line, lines-after, Headed, reading}
 use Rattle.reader.proofs.cursor.Cursor.lines_after.Given as given

@@ -4,8 +4,8 @@ use Prim.Native.Nat.{ℕ}
 use denote.Ref.{RefT, now}
 use lib.ListN.{drop}
 use Rattle.std.proofs.shelf.Results.{err-from-errBy}
-use Rattle.lang.specs.declared.faults.Fault.the-variants.{FifthLine}
-use Rattle.lang.specs.Parts.{bodies}
+use Rattle.faults.specs.declared.Fault.the-variants.{FifthLine}
+use Rattle.programs.specs.Parts.{bodies}
 use Rattle.grammar.specs.Answer.{read-thread}
 use Rattle.reader.specs.Sight.{ends-line, line-end, lines-after, Headed, reading}
 use Rattle.reader.proofs.Lines.{line-headed, program-stops, program-starts}

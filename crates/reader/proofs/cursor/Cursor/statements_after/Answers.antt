@@ -10,9 +10,9 @@ use Rattle.std.specs.Results.{isOk}
 use Rattle.std.specs.declared.result.Result.{Result}
 use Rattle.std.specs.declared.result.Result.the-variants.{Ok, Err}
 use Rattle.lang.specs.declared.syntax.Statement.{Statement}
-use Rattle.lang.specs.declared.faults.Fault.{Fault}
-use Rattle.lang.specs.declared.faults.Fault.the-variants.{NinthStatement}
-use Rattle.lang.specs.Parts.{body}
+use Rattle.faults.specs.declared.Fault.{Fault}
+use Rattle.faults.specs.declared.Fault.the-variants.{NinthStatement}
+use Rattle.programs.specs.Parts.{body}
 use Rattle.grammar.specs.Pieces.{SEMICOLON}
 use Rattle.grammar.specs.Answer.{read-statement}
 use Rattle.reader.specs.Sight.{before, ends-line, ends-statement, rest-of-statement, statement-end, line-end, Headed}

@@ -2,8 +2,8 @@ use mathlib.Core.Path.{_≡_}
 use Prim.Native.Nat.{_-_, _≤_}
 use lib.ListN.{length, drop}
 use denote.Ref.{now}
-use Rattle.lang.specs.declared.faults.Fault.the-variants.{NinthStatement}
-use Rattle.lang.specs.Parts.{body}
+use Rattle.faults.specs.declared.Fault.the-variants.{NinthStatement}
+use Rattle.programs.specs.Parts.{body}
 use Rattle.grammar.specs.Answer.{read-statement}
 use Rattle.reader.specs.Sight.{ends-statement, line-end, statements-after, Headed, reading}
 use Rattle.reader.proofs.cursor.Cursor.statements_after.Given as given

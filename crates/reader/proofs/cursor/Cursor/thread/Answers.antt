@@ -7,7 +7,7 @@ use lib.ListN.{drop}
 use Rattle.std.proofs.shelf.Results.{err-from-errBy}
 use Rattle.std.proofs.shelf.Tests.{false≢true}
 use Rattle.std.specs.declared.result.Result.the-variants.{Ok, Err}
-use Rattle.lang.specs.Parts.{body}
+use Rattle.programs.specs.Parts.{body}
 use Rattle.reader.specs.Sight.{ends-statement, statement-end, line-end, Headed}
 use Rattle.reader.proofs.Looking.{statement-headed, statement-line}
 use Rattle.reader.proofs.Turns.{thread-from, thread-stops, thread-starts}

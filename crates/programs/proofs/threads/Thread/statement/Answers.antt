@@ -1,6 +1,6 @@
 use native.Mathlib.Omega.{arith}
-use Rattle.lang.proofs.Used.{nth-used, nth-unused}
-use Rattle.lang.proofs.threads.Thread.statement.Needs as need
+use Rattle.programs.proofs.Used.{nth-used, nth-unused}
+use Rattle.programs.proofs.threads.Thread.statement.Needs as need
 
 pub returns-then-place-self : need.returns-then-place-self
 returns-then-place-self c = nth-used (c .args .self .now .statements) (c .args .self .now .len) (c .args .place) _ (omega arith) (omega arith)

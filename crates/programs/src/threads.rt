@@ -1,8 +1,8 @@
-//! Threads and programs, with their limits as invariants.
+//! Threads and programs: fixed arrays, of which the front is used.
 ghost use mathlib.Core.Path.{_≡_};
 ghost use Prim.Native.Nat.{_≤_, _<_};
 ghost use lib.ListN.{length};
-use super::syntax::Statement;
+use lang::syntax::Statement;
 
 /// The most statements that a thread has.
 pub const MAX_STATEMENTS: usize = 8;

@@ -4,10 +4,10 @@ use native.Mathlib.Omega.{arith}
 use lib.ListN.{take}
 use Rattle.std.proofs.shelf.Lists.{take-more-set, map-push}
 use Rattle.std.proofs.shelf.Tests.{lt-ltb, le-ltb, true≢false}
-use Rattle.lang.specs.declared.threads.Thread.{Thread}
-use Rattle.lang.specs.Parts.{body}
-use Rattle.lang.proofs.Used.{length-used-map}
-use Rattle.lang.proofs.threads.Program.push.Needs as need
+use Rattle.programs.specs.declared.threads.Thread.{Thread}
+use Rattle.programs.specs.Parts.{body}
+use Rattle.programs.proofs.Used.{length-used-map}
+use Rattle.programs.proofs.threads.Program.push.Needs as need
 
 pub returns-then-self-eq-MAX-THREADS : need.returns-then-self-eq-MAX-THREADS
 returns-then-self-eq-MAX-THREADS c =

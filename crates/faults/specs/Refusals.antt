@@ -3,12 +3,12 @@ use mathlib.Core.List.{List, _++_}
 use Prim.Native.Nat.{ℕ}
 use lib.Chars.{codes}
 use Rattle.std.specs.Written.{decimal}
-use Rattle.lang.specs.declared.faults.Fault.{Fault}
-use Rattle.lang.specs.declared.faults.Fault.the-variants.{TextLength, ForeignByte, FifthLine, NinthStatement, WrongWord, WrongMode, LargeNumber, NoThread, NothingLeft, StoresPending, NoStorePending, NoWrite, Unfinished, TableFull, ListFull, ReportFull}
-use Rattle.lang.specs.declared.faults.Side.{Side}
-use Rattle.lang.specs.declared.faults.Side.the-variants.{Machine, Draft}
-use Rattle.lang.specs.declared.faults.Search.{Search}
-use Rattle.lang.specs.declared.faults.Search.the-variants.{Shown, Allowed}
+use Rattle.faults.specs.declared.Fault.{Fault}
+use Rattle.faults.specs.declared.Fault.the-variants.{TextLength, ForeignByte, FifthLine, NinthStatement, WrongWord, WrongMode, LargeNumber, NoThread, NothingLeft, StoresPending, NoStorePending, NoWrite, Unfinished, TableFull, ListFull, ReportFull}
+use Rattle.faults.specs.declared.Side.{Side}
+use Rattle.faults.specs.declared.Side.the-variants.{Machine, Draft}
+use Rattle.faults.specs.declared.Search.{Search}
+use Rattle.faults.specs.declared.Search.the-variants.{Shown, Allowed}
 
 pub record Refusal : Type 0 where
   pub number : ℕ

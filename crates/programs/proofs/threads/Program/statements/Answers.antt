@@ -1,7 +1,7 @@
 use mathlib.Core.Path.{_∙_}
 use native.Mathlib.Omega.{arith}
-use Rattle.lang.proofs.Counts.{count-used, count-unused}
-use Rattle.lang.proofs.threads.Program.statements.Needs as need
+use Rattle.programs.proofs.Counts.{count-used, count-unused}
+use Rattle.programs.proofs.threads.Program.statements.Needs as need
 
 pub returns-then-thread-self : need.returns-then-thread-self
 returns-then-thread-self c =

@@ -1,7 +1,7 @@
 use native.Mathlib.Omega.{arith}
-use Rattle.lang.specs.Parts.{body}
-use Rattle.lang.proofs.Used.{length-used-map}
-use Rattle.lang.proofs.threads.Program.len.Needs as need
+use Rattle.programs.specs.Parts.{body}
+use Rattle.programs.proofs.Used.{length-used-map}
+use Rattle.programs.proofs.threads.Program.len.Needs as need
 
 pub returns : need.returns
 returns c =

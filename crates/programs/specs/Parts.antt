@@ -5,13 +5,9 @@ use lib.ListN.{length, take}
 use Rattle.std.specs.shelf.Maps.{nth}
 use Rattle.std.specs.declared.option.Option.{Option}
 use Rattle.std.specs.declared.option.Option.the-variants.{Some, None}
-use Rattle.lang.specs.declared.syntax.Location.{Location}
-use Rattle.lang.specs.declared.syntax.Location.the-variants.{X, Y, Z, W}
-use Rattle.lang.specs.declared.syntax.Register.{Register}
-use Rattle.lang.specs.declared.syntax.Register.the-variants.{R0, R1, R2, R3}
 use Rattle.lang.specs.declared.syntax.Statement.{Statement}
-use Rattle.lang.specs.declared.threads.Thread.{Thread}
-use Rattle.lang.specs.declared.threads.Program.{Program}
+use Rattle.programs.specs.declared.threads.Thread.{Thread}
+use Rattle.programs.specs.declared.threads.Program.{Program}
 
 -- The statements of a thread, in order.
 abbrev pub body : Thread → List Statement
@@ -32,16 +28,3 @@ statement-count ts t = elim (nth ts t) [ Some ss ↦ length ss | None ↦ 0 ]
 -- The number of the event at a thread and a place.
 abbrev pub event-number : ℕ → ℕ → ℕ
 event-number t p = 8 * t + p
-
--- Locations and registers are numbered in the order of their names.
-abbrev pub location-index : Location → ℕ
-location-index X = 0
-location-index Y = 1
-location-index Z = 2
-location-index W = 3
-
-abbrev pub register-index : Register → ℕ
-register-index R0 = 0
-register-index R1 = 1
-register-index R2 = 2
-register-index R3 = 3

@@ -5,10 +5,10 @@ use Prim.Native.Nat.{ℕ, _<_, _≤_}
 use lib.ListN.{length, getD, take}
 use Rattle.std.specs.declared.option.Option.{Option}
 use Rattle.std.specs.declared.option.Option.the-variants.{Some, None}
 use Rattle.lang.specs.declared.syntax.Statement.{Statement}
-use Rattle.lang.specs.declared.threads.Thread.{Thread}
-use Rattle.lang.specs.Parts.{body, statement-count}
-use Rattle.lang.proofs.Used.{nth-used-map, nth-unused-map}
+use Rattle.programs.specs.declared.threads.Thread.{Thread}
+use Rattle.programs.specs.Parts.{body, statement-count}
+use Rattle.programs.proofs.Used.{nth-used-map, nth-unused-map}
 
 abbrev counted : Option (List Statement) → ℕ
 counted o = elim o [ Some ss ↦ length ss | None ↦ 0 ]

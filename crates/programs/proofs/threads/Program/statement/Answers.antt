@@ -4,10 +4,10 @@ use native.Mathlib.Omega.{arith}
 use Rattle.std.specs.shelf.Maps.{nth}
 use Rattle.std.specs.declared.option.Option.{Option}
 use Rattle.std.specs.declared.option.Option.the-variants.{Some, None}
 use Rattle.lang.specs.declared.syntax.Statement.{Statement}
-use Rattle.lang.specs.Parts.{body}
-use Rattle.lang.proofs.Used.{nth-used-map, nth-unused-map}
-use Rattle.lang.proofs.threads.Program.statement.Needs as need
+use Rattle.programs.specs.Parts.{body}
+use Rattle.programs.proofs.Used.{nth-used-map, nth-unused-map}
+use Rattle.programs.proofs.threads.Program.statement.Needs as need
 
 pub returns-then-thread-self : need.returns-then-thread-self
 returns-then-thread-self c =

@@ -8,31 +8,13 @@ ghost use lib.ListN.{length};
 ghost use Rattle.std.specs.shelf.Maps.{nth};
 ghost use Rattle.std.specs.declared.option.Option.the-variants.{Some, None};
 ghost use Rattle.std.specs.Results.{isOk};
-ghost use Rattle.lang.specs.Parts.{body, bodies, statement-at, statement-count, event-number, location-index, register-index};
-use super::syntax::*;
+ghost use Rattle.programs.specs.Parts.{body, bodies, statement-at, statement-count, event-number};
 use super::threads::*;
+use lang::syntax::Statement;
 
 /// There is no room for one more.
-#[derive(Clone, Copy, PartialEq, Eq, Debug)]
+#[derive(Clone, Copy, PartialEq, Eq)]
 pub struct Full;
-
-impl Location {
-    /// x is 0, y is 1, z is 2, w is 3.
-    pub fn index(self) -> usize
-        ensures { λ r. ⌜ r ≡ location-index self ⌝ }
-    {
-        self as usize
-    }
-}
-
-impl Register {
-    /// r0 is 0 and so on.
-    pub fn index(self) -> usize
-        ensures { λ r. ⌜ r ≡ register-index self ⌝ }
-    {
-        self as usize
-    }
-}
 
 impl Thread {
     /// A thread of one statement.

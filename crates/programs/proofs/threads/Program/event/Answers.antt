@@ -2,10 +2,10 @@ use mathlib.Core.Path.{sym}
 use native.Mathlib.Omega.{arith}
 use Prim.Native.Nat.{_≤_}
 use Rattle.std.proofs.shelf.Tests.{cond-false, le-ltb}
-use Rattle.lang.specs.Parts.{bodies, statement-count}
-use Rattle.lang.proofs.Counts.{count-unused}
-use Rattle.lang.proofs.threads.Program.event.Needs as need
-use Rattle.lang.proofs.threads.Program.event.Needs.{else-thread-self·by·then-thread-self·else-place-statements, else-thread-self·by·else-thread-self}
+use Rattle.programs.specs.Parts.{bodies, statement-count}
+use Rattle.programs.proofs.Counts.{count-unused}
+use Rattle.programs.proofs.threads.Program.event.Needs as need
+use Rattle.programs.proofs.threads.Program.event.Needs.{else-thread-self·by·then-thread-self·else-place-statements, else-thread-self·by·else-thread-self}
 
 pub returns-else-thread-self : need.returns-else-thread-self
 returns-else-thread-self c =

@@ -3,8 +3,8 @@ use native.Mathlib.Omega.{arith}
 use lib.ListN.{length}
 use Rattle.std.proofs.shelf.Lists.{take-more-set, length-take-le}
 use Rattle.std.proofs.shelf.Tests.{lt-ltb, le-ltb, true≢false}
-use Rattle.lang.specs.Parts.{body}
-use Rattle.lang.proofs.threads.Thread.push.Needs as need
+use Rattle.programs.specs.Parts.{body}
+use Rattle.programs.proofs.threads.Thread.push.Needs as need
 
 pub returns-then-self-eq-MAX-STATEMENTS : need.returns-then-self-eq-MAX-STATEMENTS
 returns-then-self-eq-MAX-STATEMENTS c =

@@ -1,7 +1,7 @@
 use mathlib.Core.Path.{sym}
 use native.Mathlib.Omega.{arith}
 use Rattle.std.proofs.shelf.Lists.{length-take-le}
-use Rattle.lang.proofs.threads.Thread.len.Needs as need
+use Rattle.programs.proofs.threads.Thread.len.Needs as need
 
 pub returns : need.returns
 returns c =

@@ -1,26 +1,26 @@
 //! The sixteen ways in which calls refuse, each with its number, pass and place.
 ghost use mathlib.Core.Path.{_≡_};
 ghost use mathlib.Core.List.{_++_};
-ghost use Rattle.lang.specs.Refusals.{refusal, refusal-line, side-pass, search-place};
+ghost use Rattle.faults.specs.Refusals.{refusal, refusal-line, side-pass, search-place};
 ghost use Rattle.std.specs.declared.option.Option.the-variants.{Some};
 use std::fmt;
 
 /// Which of the two ways to run a program refuses.
-#[derive(Clone, Copy, PartialEq, Eq, Debug)]
+#[derive(Clone, Copy, PartialEq, Eq)]
 pub enum Side {
     Machine,
     Draft,
 }
 
 /// Which list a search was for.
-#[derive(Clone, Copy, PartialEq, Eq, Debug)]
+#[derive(Clone, Copy, PartialEq, Eq)]
 pub enum Search {
     Shown,
     Allowed,
 }
 
 /// Why a call refused. Offsets count the bytes of the text from 0.
-#[derive(Clone, Copy, PartialEq, Eq, Debug)]
+#[derive(Clone, Copy, PartialEq, Eq)]
 pub enum Fault {
     /// The text is empty or longer than 2,048 bytes.
     TextLength,
