@@ -11,7 +11,7 @@ use Rattle.std.specs.declared.result.Result.the-variants.{Ok, Err}
 use Rattle.faults.specs.declared.Fault.{Fault}
 use Rattle.grammar.specs.Pieces.{Piece}
 use Rattle.grammar.specs.Answer.{and-then, read-each}
-use Rattle.reader.specs.Sight.{reading}
+use Rattle.reader.specs.Ahead.{reading}
 
 -- The values xs in front of those of an answer.
 abbrev behind : {X : Type 0} → List X → Result (List X) Fault → Result (List X) Fault

@@ -17,8 +17,9 @@ use Rattle.faults.specs.declared.Fault.{Fault}
 use Rattle.faults.specs.declared.Fault.the-variants.{FifthLine}
 use Rattle.grammar.specs.Answer.{read-each, read-thread}
 use Rattle.grammar.specs.Pieces.{Piece, piece, widened, split, closed, LF}
-use Rattle.reader.specs.Sight.{before, ends-line, rest-of-line, line-end, lines-from, lines-past, lines-after, Headed, reading}
-use Rattle.reader.proofs.Ahead.{before-headed}
+use Rattle.cursor.specs.Sight.{before, ends-line, Headed}
+use Rattle.reader.specs.Ahead.{rest-of-line, line-end, lines-from, lines-past, lines-after, reading}
+use Rattle.cursor.proofs.Ahead.{before-headed}
 use Rattle.reader.proofs.Growing.{reading-starts, reading-stops, reading-more}
 
 -- The lines after the byte that stands at the offset e, one of which may be empty and no line.

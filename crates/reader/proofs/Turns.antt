@@ -12,7 +12,8 @@ use Rattle.faults.specs.declared.Fault.{Fault}
 use Rattle.faults.specs.declared.Fault.the-variants.{NinthStatement}
 use Rattle.grammar.specs.Pieces.{SEMICOLON, statements}
 use Rattle.grammar.specs.Answer.{read-statement, read-thread}
-use Rattle.reader.specs.Sight.{rest-of-line, rest-of-statement, statement-end, line-end, statements-after, reading}
+use Rattle.cursor.specs.Sight.{rest-of-statement, statement-end}
+use Rattle.reader.specs.Ahead.{rest-of-line, line-end, statements-after, reading}
 use Rattle.reader.proofs.Growing.{reading-starts, reading-stops, reading-more}
 use Rattle.reader.proofs.Looking.{statements-ahead, statement-line, semicolon-more, semicolon-line}
 

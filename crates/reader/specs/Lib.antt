@@ -1,1 +1,1 @@
-pub mod Sight
+pub mod Ahead

@@ -1,15 +1,11 @@
 //! From a program text to a program, or to the fault with which the text is refused.
-mod cursor;
-mod scan;
-mod statements;
 mod threads;
-mod words;
 
 ghost use mathlib.Core.Path.{_≡_};
 ghost use Rattle.programs.specs.Parts.{bodies};
 ghost use Rattle.grammar.specs.Answer.{answer, foreign, no-foreign};
 ghost use Rattle.grammar.specs.Texts.{permitted, seen, Right};
-use cursor::Cursor;
+use cursor::text::Cursor;
 use faults::Fault;
 use programs::threads::Program;
 
@@ -45,5 +41,5 @@ pub fn read(text: &[u8]) -> Result<Program, Fault>
         return Err(Fault::TextLength);
     }
     check_bytes(text)?;
-    Cursor::new(text).program()
+    threads::program(&mut Cursor::new(text))
 }

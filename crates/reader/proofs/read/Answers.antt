@@ -12,7 +12,7 @@ use Rattle.faults.specs.declared.Fault.{Fault}
 use Rattle.faults.specs.declared.Fault.the-variants.{FifthLine}
 use Rattle.grammar.specs.Answer.{and-then, read-each, read-thread, read-threads, read-bytes}
 use Rattle.grammar.proofs.Theorem.{answer-length, answer-bytes, right-if}
-use Rattle.reader.specs.Sight.{lines-from}
+use Rattle.reader.specs.Ahead.{lines-from}
 use Rattle.reader.proofs.read.Needs as need
 
 pub returns-then-is-empty : need.returns-then-is-empty
