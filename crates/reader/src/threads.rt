@@ -70,7 +70,7 @@ fn lines_after(cursor: &mut Cursor, first: Program) -> Result<Program, Fault>
 }
 
 /// The program that the text from here on spells, where a line begins.
-pub fn program(cursor: &mut Cursor) -> Result<Program, Fault>
+pub(super) fn program(cursor: &mut Cursor) -> Result<Program, Fault>
     requires { ⌜ now cursor .at < length (now (now cursor .text)) ⌝ }
     ensures value { λ r. ⌜ seen bodies r ≡ read-each 4 FifthLine read-thread (lines-from (now (now (cursor .entry) .text)) (now (cursor .entry) .at)) ⌝ }
 {

@@ -1,0 +1,99 @@
+//! Reads a program text from standard input and prints its events, one a line, or the line with which it is refused.
+use faults::FaultDisplay;
+use lang::spelling::StatementDisplay;
+use lang::syntax::Statement;
+use programs::threads::Program;
+use std::env;
+use std::error::AnyError;
+use std::io;
+use std::io::Read;
+
+const HELP: &str = "\
+usage: report < PROGRAM
+
+Reads a program text from standard input and prints its events, one a line:
+thread.place and the statement. A text that is no program is answered by
+`refused N pass P place Q`.
+
+A program is 1 to 4 lines, each a thread of 1 to 8 statements parted by `;`:
+  ld R L M       R gets L                    M: rlx acq sc
+  st L V M       L gets V                    M: rlx rel sc
+  xchg R L V M   R gets old L, L gets V      M: rlx acq rel ar sc
+  add R L V M    R gets old L, L gets L + V  M: rlx acq rel ar sc
+  fence M        orders only                 M: acq rel ar sc
+L is x, y, z or w; R is r0 to r3; V is a register or a number from 0 to 255.";
+
+/// What the words on the command line ask for.
+#[derive(Drop)]
+enum Request {
+    Report,
+    Help,
+    Unknown(String),
+}
+
+fn asked(rt: &LibcRuntime) -> io::Result<Request> {
+    let mut words = env::args(rt)?;
+    let _name = words.next();
+    match words.next() {
+        None => Ok(Request::Report),
+        Some(word) => {
+            if word == "--help" {
+                Ok(Request::Help)
+            } else {
+                Ok(Request::Unknown(word))
+            }
+        }
+    }
+}
+
+/// The text on standard input, or as much of it as shows that it is too long.
+fn input(rt: &LibcRuntime) -> io::Result<Vec<u8>> {
+    let mut text = Vec::new(rt.alloc());
+    let limit = reader::MAX_TEXT as u64 + 1;
+    rt.stdin().take(limit).read_to_end(&mut text)?;
+    Ok(text)
+}
+
+fn print_event(rt: &LibcRuntime, thread: usize, place: usize, statement: Statement) -> io::Result<()> {
+    println!(rt, "{thread}.{place} {statement}")
+}
+
+fn print_thread(rt: &LibcRuntime, program: &Program, thread: usize) -> io::Result<()> {
+    for place in 0..program.statements(thread) {
+        if let Some(statement) = program.statement(thread, place) {
+            print_event(rt, thread, place, statement)?;
+        }
+    }
+    Ok(())
+}
+
+fn print_program(rt: &LibcRuntime, program: &Program) -> io::Result<()> {
+    for thread in 0..program.len() {
+        print_thread(rt, program, thread)?;
+    }
+    Ok(())
+}
+
+fn report(rt: &LibcRuntime) -> io::Result<()> {
+    let text = input(rt)?;
+    match reader::read(text.as_slice()) {
+        Ok(program) => print_program(rt, &program),
+        Err(fault) => println!(rt, "{fault}"),
+    }
+}
+
+fn run(rt: &LibcRuntime) -> Result<(), AnyError> {
+    match asked(rt)? {
+        Request::Report => report(rt)?,
+        Request::Help => println!(rt, "{HELP}")?,
+        Request::Unknown(word) => {
+            eprintln!(rt, "report: `{word}` is not accepted; it takes no words but --help, and the program on standard input")?;
+            return Err("wrong word".into());
+        }
+    }
+    Ok(())
+}
+
+fn main(rt: LibcRuntime) -> Result<(), AnyError> {
+    rt.report(run(&rt))
+}
