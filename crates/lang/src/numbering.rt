@@ -10,7 +10,12 @@ impl Location {
         ensures value { λ r. ⌜ r ≡ location-index self ⌝ }
         ensures bound { λ r. ⌜ r < 4 ⌝ }
     {
-        self as usize
+        match self {
+            Location::X => 0,
+            Location::Y => 1,
+            Location::Z => 2,
+            Location::W => 3,
+        }
     }
 }
 
@@ -20,6 +25,11 @@ impl Register {
         ensures value { λ r. ⌜ r ≡ register-index self ⌝ }
         ensures bound { λ r. ⌜ r < 4 ⌝ }
     {
-        self as usize
+        match self {
+            Register::R0 => 0,
+            Register::R1 => 1,
+            Register::R2 => 2,
+            Register::R3 => 3,
+        }
     }
 }

@@ -23,24 +23,17 @@ A program is 1 to 4 lines, each a thread of 1 to 8 statements parted by `;`:
   fence M        orders only                 M: acq rel ar sc
 L is x, y, z or w; R is r0 to r3; V is a register or a number from 0 to 255.";
 
-/// What the words on the command line ask for.
-#[derive(Drop)]
-enum Request {
-    Report,
-    Help,
-    Unknown(String),
-}
-
-fn asked(rt: &LibcRuntime) -> io::Result<Request> {
+/// If the words on the command line ask for help; no others are taken.
+fn asks_for_help(rt: &LibcRuntime) -> Result<bool, AnyError> {
     let mut words = env::args(rt)?;
-    let _name = words.next();
+    let _program = words.next();
     match words.next() {
-        None => Ok(Request::Report),
+        None => Ok(false),
         Some(word) => {
             if word == "--help" {
-                Ok(Request::Help)
+                Ok(true)
             } else {
-                Ok(Request::Unknown(word))
+                Err("no word is taken but --help; the program comes on standard input".into())
             }
         }
     }
@@ -83,17 +76,18 @@ fn report(rt: &LibcRuntime) -> io::Result<()> {
 }
 
 fn run(rt: &LibcRuntime) -> Result<(), AnyError> {
-    match asked(rt)? {
-        Request::Report => report(rt)?,
-        Request::Help => println!(rt, "{HELP}")?,
-        Request::Unknown(word) => {
-            eprintln!(rt, "report: `{word}` is not accepted; it takes no words but --help, and the program on standard input")?;
-            return Err("wrong word".into());
-        }
+    if asks_for_help(rt)? {
+        println!(rt, "{HELP}")?;
+    } else {
+        report(rt)?;
     }
     Ok(())
 }
 
 fn main(rt: LibcRuntime) -> Result<(), AnyError> {
-    rt.report(run(&rt))
+    let result = run(&rt);
+    if let Err(error) = &result {
+        let _ = eprintln!(rt, "report: {error}");
+    }
+    result
 }
