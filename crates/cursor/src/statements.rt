@@ -11,8 +11,8 @@ ghost use Rattle.cursor.specs.Sight.{words-left, statement-end, Takes};
 ghost use Rattle.grammar.specs.declared.kinds.Kind.the-variants.{Load, Store, Exchange, Add, Fence};
 use super::text::*;
 use super::words;
-use grammar::kinds::*;
 use faults::Fault;
+use grammar::kinds::*;
 use lang::syntax::*;
 
 impl<'a> Cursor<'a> {

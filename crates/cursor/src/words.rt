@@ -9,8 +9,8 @@ ghost use Rattle.grammar.specs.Pieces.{piece};
 ghost use Rattle.grammar.specs.Table.{number};
 ghost use Rattle.grammar.specs.Answer.{register-of, mode-of, moded, read-kind, read-register, read-location, read-operand, read-mode, read-number};
 use super::text::*;
-use grammar::kinds::*;
 use faults::Fault;
+use grammar::kinds::*;
 use lang::syntax::*;
 
 /// The largest number that a statement can write.

@@ -3,7 +3,7 @@ mod threads;
 
 ghost use mathlib.Core.Path.{_≡_};
 ghost use Rattle.programs.specs.Parts.{bodies};
-ghost use Rattle.grammar.specs.Answer.{answer, foreign, no-foreign};
+ghost use Rattle.grammar.specs.Answer.{answer, foreign};
 ghost use Rattle.grammar.specs.Texts.{permitted, seen, Right};
 use cursor::text::Cursor;
 use faults::Fault;
@@ -19,16 +19,17 @@ fn is_permitted(byte: u8) -> bool
     matches!(byte, b'a'..=b'z' | b'0'..=b'9' | b' ' | b';' | b'\n')
 }
 
-/// Refuses the leftmost byte that a text may not have.
-fn check_bytes(text: &[u8]) -> Result<(), Fault>
-    ensures { λ r. ⌜ r ≡ no-foreign (foreign 0 (now (text .entry))) ⌝ }
+/// The offset of the leftmost byte that a text may not have.
+fn foreign_byte(text: &[u8]) -> Option<usize>
+    ensures { λ r. ⌜ r ≡ foreign 0 (now (text .entry)) ⌝ }
 {
+    let mut leftmost = None;
     for (offset, byte) in text.iter().enumerate() {
         if !is_permitted(*byte) {
-            return Err(Fault::ForeignByte { offset });
+            leftmost = leftmost.or(Some(offset));
         }
     }
-    Ok(())
+    leftmost
 }
 
 /// The program that a text spells, or the fault with which it is refused: for a wrong length or a foreign byte first, then the
@@ -40,6 +41,8 @@ pub fn read(text: &[u8]) -> Result<Program, Fault>
     if text.is_empty() || text.len() > MAX_TEXT {
         return Err(Fault::TextLength);
     }
-    check_bytes(text)?;
-    threads::program(&mut Cursor::new(text))
+    match foreign_byte(text) {
+        Some(offset) => Err(Fault::ForeignByte { offset }),
+        None => threads::program(&mut Cursor::new(text)),
+    }
 }

@@ -15,6 +15,12 @@ use cursor::text::Cursor;
 use faults::Fault;
 use programs::threads::*;
 
+/// The most `;` in a line: one after each statement but the last.
+const MAX_SEMICOLONS: usize = MAX_STATEMENTS - 1;
+
+/// The most LFs that a byte may follow: one after each line but the last.
+const MAX_LINE_FEEDS: usize = MAX_THREADS - 1;
+
 /// Reads on after a statement of a thread, up to the end of the line.
 fn statements_after(cursor: &mut Cursor, first: Thread) -> Result<Thread, Fault>
     requires { ⌜ Headed ends-statement (drop (now cursor .at) (now (now cursor .text))) ⌝ }
@@ -25,8 +31,10 @@ fn statements_after(cursor: &mut Cursor, first: Thread) -> Result<Thread, Fault>
 {
     let mut thread = first;
     while cursor.skip(b';') {
-        if thread.len() == MAX_STATEMENTS {
-            return Err(Fault::NinthStatement { offset: cursor.offset() });
+        if thread.len() > MAX_SEMICOLONS {
+            return Err(Fault::NinthStatement {
+                offset: cursor.offset(),
+            });
         }
         let statement = cursor.statement()?;
         thread.push(statement).unwrap();
@@ -60,8 +68,10 @@ fn lines_after(cursor: &mut Cursor, first: Program) -> Result<Program, Fault>
 {
     let mut program = first;
     while next_line(cursor) {
-        if program.len() == MAX_THREADS {
-            return Err(Fault::FifthLine { offset: cursor.offset() });
+        if program.len() > MAX_LINE_FEEDS {
+            return Err(Fault::FifthLine {
+                offset: cursor.offset(),
+            });
         }
         let thread = thread(cursor)?;
         program.push(thread).unwrap();

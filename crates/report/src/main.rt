@@ -47,7 +47,12 @@ fn input(rt: &LibcRuntime) -> io::Result<Vec<u8>> {
     Ok(text)
 }
 
-fn print_event(rt: &LibcRuntime, thread: usize, place: usize, statement: Statement) -> io::Result<()> {
+fn print_event(
+    rt: &LibcRuntime,
+    thread: usize,
+    place: usize,
+    statement: Statement,
+) -> io::Result<()> {
     println!(rt, "{thread}.{place} {statement}")
 }
 

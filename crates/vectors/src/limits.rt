@@ -25,28 +25,64 @@ fn padded(heap: Global, len: usize) -> Result<Vec<u8>, AllocError> {
 fn lengths(rt: LibcRuntime) -> Result<(), Fail> {
     let heap = rt.alloc();
     check_eq(answer(heap, b"")?.as_str(), "refused 1 pass 1 place 0")?;
-    check_eq(answer(heap, padded(heap, 2048)?.as_slice())?.as_str(), "accepted")?;
-    check_eq(answer(heap, padded(heap, 2049)?.as_slice())?.as_str(), "refused 1 pass 1 place 0")
+    check_eq(
+        answer(heap, padded(heap, 2048)?.as_slice())?.as_str(),
+        "accepted",
+    )?;
+    check_eq(
+        answer(heap, padded(heap, 2049)?.as_slice())?.as_str(),
+        "refused 1 pass 1 place 0",
+    )
 }
 
 #[test]
 fn bytes(rt: LibcRuntime) -> Result<(), Fail> {
     let heap = rt.alloc();
-    check_eq(answer(heap, b"fence sc\r\n")?.as_str(), "refused 2 pass 1 place 8")?;
-    check_eq(answer(heap, b"\tfence sc")?.as_str(), "refused 2 pass 1 place 0")?;
-    check_eq(answer(heap, b"fence Sc")?.as_str(), "refused 2 pass 1 place 6")?;
-    check_eq(answer(heap, b"fence sc\0")?.as_str(), "refused 2 pass 1 place 8")?;
-    check_eq(answer(heap, b"fence sc\xff")?.as_str(), "refused 2 pass 1 place 8")?;
-    check_eq(answer(heap, b"zz;;;\n\n\x7f")?.as_str(), "refused 2 pass 1 place 7")
+    check_eq(
+        answer(heap, b"fence sc\r\n")?.as_str(),
+        "refused 2 pass 1 place 8",
+    )?;
+    check_eq(
+        answer(heap, b"\tfence sc")?.as_str(),
+        "refused 2 pass 1 place 0",
+    )?;
+    check_eq(
+        answer(heap, b"fence Sc")?.as_str(),
+        "refused 2 pass 1 place 6",
+    )?;
+    check_eq(
+        answer(heap, b"fence sc\0")?.as_str(),
+        "refused 2 pass 1 place 8",
+    )?;
+    check_eq(
+        answer(heap, b"fence sc\xff")?.as_str(),
+        "refused 2 pass 1 place 8",
+    )?;
+    check_eq(
+        answer(heap, b"zz;;;\n\n\x7f")?.as_str(),
+        "refused 2 pass 1 place 7",
+    )
 }
 
 const CASES: [(&str, &str); 24] = [
     ("fence sc\nfence sc\nfence sc\nfence sc\n", "accepted"),
     ("fence sc\nfence sc\nfence sc\nfence sc", "accepted"),
-    ("fence sc\nfence sc\nfence sc\nfence sc\nfence sc", "refused 3 pass 2 place 36"),
-    ("fence sc;fence sc;fence sc;fence sc;fence sc;fence sc;fence sc;fence sc", "accepted"),
-    ("fence sc;fence sc;fence sc;fence sc;fence sc;fence sc;fence sc;fence sc;", "refused 4 pass 2 place 72"),
-    ("fence sc;fence sc;fence sc;fence sc;fence sc;fence sc;fence sc;;", "refused 5 pass 2 place 63"),
+    (
+        "fence sc\nfence sc\nfence sc\nfence sc\nfence sc",
+        "refused 3 pass 2 place 36",
+    ),
+    (
+        "fence sc;fence sc;fence sc;fence sc;fence sc;fence sc;fence sc;fence sc",
+        "accepted",
+    ),
+    (
+        "fence sc;fence sc;fence sc;fence sc;fence sc;fence sc;fence sc;fence sc;",
+        "refused 4 pass 2 place 72",
+    ),
+    (
+        "fence sc;fence sc;fence sc;fence sc;fence sc;fence sc;fence sc;;",
+        "refused 5 pass 2 place 63",
+    ),
     ("st x 0255 rlx", "accepted"),
     ("st x 000000000000000000000255 rlx", "accepted"),
     ("st x 256 rlx", "refused 7 pass 2 place 5"),

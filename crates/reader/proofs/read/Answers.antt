@@ -5,12 +5,10 @@ use Prim.Native.Nat.{ℕ, _<_, _≤_}
 use native.Mathlib.Omega.{arith}
 use denote.Ref.{RefT, now}
 use lib.ListN.{length}
-use Rattle.std.proofs.shelf.Results.{err-from-errBy}
 use Rattle.std.proofs.shelf.Tests.{eqb-true, eqb-false}
-use Rattle.std.specs.declared.result.Result.{Result}
-use Rattle.faults.specs.declared.Fault.{Fault}
+use Rattle.std.specs.declared.option.Option.{Option}
 use Rattle.faults.specs.declared.Fault.the-variants.{FifthLine}
-use Rattle.grammar.specs.Answer.{and-then, read-each, read-thread, read-threads, read-bytes}
+use Rattle.grammar.specs.Answer.{and-then, no-foreign, read-each, read-thread, read-threads}
 use Rattle.grammar.proofs.Theorem.{answer-length, answer-bytes, right-if}
 use Rattle.reader.specs.Ahead.{lines-from}
 use Rattle.reader.proofs.read.Needs as need
@@ -22,24 +20,23 @@ returns-then-is-empty c =
     let value = sym (answer-length (c .args .text .now) wrong) in
     record { value = value; right = right-if _ _ value }
 
-pub returns-in-Break-check-bytes : need.returns-in-Break-check-bytes
-returns-in-Break-check-bytes c =
+pub returns-in-Some : need.returns-in-Some
+returns-in-Some c =
     let text : List ℕ = c .args .text .now in
     let some : 0 < length text = omega (arith, eqb-false _ _ (sym (c .if-is-empty .ensures tt))) in
     let value =
-    ap (λ (r : Result (Unit {0}) Fault). and-then r (λ _. read-threads text)) (c .in-Break-check-bytes .ensures tt)
+    ap (λ (o : Option ℕ). and-then (no-foreign o) (λ _. read-threads text)) (c .in-Some .ensures tt)
     ∙ sym (answer-bytes text some (c .if-text-gt-MAX-TEXT .left)) in
-    let p = err-from-errBy (c .from-residual .result) (c .from-residual .ensures .1) in
-    rw (p .1, p .2) record { value = value; right = right-if _ _ value }
+    record { value = value; right = right-if _ _ value }
 
-pub returns : need.returns
-returns c =
+pub returns-in-None : need.returns-in-None
+returns-in-None c =
     let text : List ℕ = c .args .text .now in
     let some : 0 < length text = omega (arith, eqb-false _ _ (sym (c .if-is-empty .ensures tt))) in
     let value =
     c .program .ensures .value
     ∙ ap (λ n. read-each 4 FifthLine read-thread (lines-from (now (c .new .result .text)) n)) (c .new .ensures .0)
     ∙ ap (λ (t : RefT (List ℕ)). read-each 4 FifthLine read-thread (lines-from (now t) 0)) (c .new .ensures .1)
-    ∙ ap (λ (r : Result (Unit {0}) Fault). and-then r (λ _. read-threads text)) (c .in-Continue-check-bytes .ensures tt)
+    ∙ ap (λ (o : Option ℕ). and-then (no-foreign o) (λ _. read-threads text)) (c .in-None .ensures tt)
     ∙ sym (answer-bytes text some (c .if-text-gt-MAX-TEXT .left)) in
     record { value = value; right = right-if _ _ value }

@@ -29,13 +29,13 @@ Passed at then text = (at < length (now text)) × (getD (now text) at 0 ≡ LF) 
 abbrev Answered : Result (List Statement) Fault → ℕ → RefT (List ℕ) → Type 0
 Answered r at text = r ≡ read-thread (rest-of-line (now text) at)
 
-pub returns-then-len-eq-MAX-THREADS : need.returns-then-len-eq-MAX-THREADS
-returns-then-len-eq-MAX-THREADS c =
+pub returns-then-len-gt-MAX-LINE-FEEDS : need.returns-then-len-gt-MAX-LINE-FEEDS
+returns-then-len-gt-MAX-LINE-FEEDS c =
     let h = subst (Passed (c .loop-program .cursor .at) (c .next-line .last .cursor .at)) (c .loop-program .inv .0) (c .loop-program-test .ensures tt .cases) in
     record {
       value =
           ap (λ n. Err (FifthLine n)) (c .offset .ensures)
-          ∙ sym (reading-full FifthLine read-thread 4 (bodies (c .loop-program .program)) _ _ _ (line-turn _ _ _ (h .0) (h .2) (h .3)) (omega (arith, c .len .ensures .value, c .if-len-eq-MAX-THREADS .taken)))
+          ∙ sym (reading-full FifthLine read-thread 4 (bodies (c .loop-program .program)) _ _ _ (line-turn _ _ _ (h .0) (h .2) (h .3)) (omega (arith, c .len .ensures .value, c .if-len-gt-MAX-LINE-FEEDS .taken)))
           ∙ c .loop-program .inv .1;
     }
 
@@ -44,7 +44,7 @@ returns-in-Break-thread c =
     let h = subst (Passed (c .loop-program .cursor .at) (c .next-line .last .cursor .at)) (c .loop-program .inv .0) (c .loop-program-test .ensures tt .cases) in
     let same = c .next-line .ensures .same ∙ c .loop-program .inv .0 in
     let read = subst (Answered (Err (c .in-Break-thread .field-0 .0)) (c .next-line .last .cursor .at)) same (c .in-Break-thread .ensures tt .value) in
-    let room : length (bodies (c .loop-program .program)) < 4 = omega (arith, c .len .ensures .value, c .len .ensures .high-bound, c .if-len-eq-MAX-THREADS .left) in
+    let room : length (bodies (c .loop-program .program)) < 4 = omega (arith, c .len .ensures .value, c .len .ensures .high-bound, c .if-len-gt-MAX-LINE-FEEDS .left) in
     let p = err-from-errBy (c .from-residual .result) (c .from-residual .ensures .1) in
     rw (p .1, p .2)
     record {
@@ -57,7 +57,7 @@ loop-program-again c =
     let h = subst (Passed (c .loop-program .cursor .at) (c .next-line .last .cursor .at)) (c .loop-program .inv .0) (c .loop-program-test .ensures tt .cases) in
     let same = c .next-line .ensures .same ∙ c .loop-program .inv .0 in
     let read = subst (Answered (Ok (body (c .in-Continue-thread .thread))) (c .next-line .last .cursor .at)) same (c .in-Continue-thread .ensures tt .value) in
-    let room : length (bodies (c .loop-program .program)) < 4 = omega (arith, c .len .ensures .value, c .len .ensures .high-bound, c .if-len-eq-MAX-THREADS .left) in
+    let room : length (bodies (c .loop-program .program)) < 4 = omega (arith, c .len .ensures .value, c .len .ensures .high-bound, c .if-len-gt-MAX-LINE-FEEDS .left) in
     let stop : c .thread .last .cursor .at ≡ line-end (now text) (c .next-line .last .cursor .at) =
     subst (λ (t : RefT (List ℕ)). c .thread .last .cursor .at ≡ line-end (now t) (c .next-line .last .cursor .at)) same (c .in-Continue-thread .ensures tt .after refl) in
     let grown : bodies (c .push .last .self) ≡ bodies (c .loop-program .program) ++ (body (c .in-Continue-thread .thread) ∷ []) =

@@ -30,13 +30,13 @@ Passed at then text = (at < length (now text)) × (getD (now text) at 0 ≡ SEMI
 abbrev Answered : Result Statement Fault → ℕ → RefT (List ℕ) → Type 0
 Answered r at text = r ≡ read-statement (rest-of-statement (now text) at)
 
-pub returns-then-len-eq-MAX-STATEMENTS : need.returns-then-len-eq-MAX-STATEMENTS
-returns-then-len-eq-MAX-STATEMENTS c =
+pub returns-then-len-gt-MAX-SEMICOLONS : need.returns-then-len-gt-MAX-SEMICOLONS
+returns-then-len-gt-MAX-SEMICOLONS c =
     let h = subst (Passed (c .loop-thread .cursor .at) (c .skip .last .self .at)) (c .loop-thread .inv .0) (c .loop-thread-test .ensures tt .cases) in
     record {
       same = c .skip .ensures .same ∙ c .loop-thread .inv .0;
       forward = omega (arith, c .loop-thread .inv .1, h .2);
-      value = ap (λ n. Err (NinthStatement n)) (c .offset .ensures) ∙ sym (reading-full NinthStatement read-statement 8 (body (c .loop-thread .thread)) _ _ _ (statement-turn _ _ _ (h .0) (h .1) (h .2)) (omega (arith, c .len .ensures .value, c .if-len-eq-MAX-STATEMENTS .taken))) ∙ c .loop-thread .inv .2;
+      value = ap (λ n. Err (NinthStatement n)) (c .offset .ensures) ∙ sym (reading-full NinthStatement read-statement 8 (body (c .loop-thread .thread)) _ _ _ (statement-turn _ _ _ (h .0) (h .1) (h .2)) (omega (arith, c .len .ensures .value, c .if-len-gt-MAX-SEMICOLONS .taken))) ∙ c .loop-thread .inv .2;
       after = λ e. absurd (false≢true e);
     }
 
@@ -45,7 +45,7 @@ returns-in-Break-statement c =
     let h = subst (Passed (c .loop-thread .cursor .at) (c .skip .last .self .at)) (c .loop-thread .inv .0) (c .loop-thread-test .ensures tt .cases) in
     let same = c .skip .ensures .same ∙ c .loop-thread .inv .0 in
     let read = subst (Answered (Err (c .in-Break-statement .field-0 .0)) (c .skip .last .self .at)) same (c .in-Break-statement .ensures tt .value) in
-    let room : length (body (c .loop-thread .thread)) < 8 = omega (arith, c .len .ensures .value, c .len .ensures .high-bound, c .if-len-eq-MAX-STATEMENTS .left) in
+    let room : length (body (c .loop-thread .thread)) < 8 = omega (arith, c .len .ensures .value, c .len .ensures .high-bound, c .if-len-gt-MAX-SEMICOLONS .left) in
     let p = err-from-errBy (c .from-residual .result) (c .from-residual .ensures .1) in
     rw (p .1, p .2)
     record {
@@ -61,7 +61,7 @@ loop-thread-again c =
     let h = subst (Passed (c .loop-thread .cursor .at) (c .skip .last .self .at)) (c .loop-thread .inv .0) (c .loop-thread-test .ensures tt .cases) in
     let same = c .skip .ensures .same ∙ c .loop-thread .inv .0 in
     let read = subst (Answered (Ok (c .in-Continue-statement .statement)) (c .skip .last .self .at)) same (c .in-Continue-statement .ensures tt .value) in
-    let room : length (body (c .loop-thread .thread)) < 8 = omega (arith, c .len .ensures .value, c .len .ensures .high-bound, c .if-len-eq-MAX-STATEMENTS .left) in
+    let room : length (body (c .loop-thread .thread)) < 8 = omega (arith, c .len .ensures .value, c .len .ensures .high-bound, c .if-len-gt-MAX-SEMICOLONS .left) in
     let stop : c .statement .last .self .at ≡ statement-end (now text) (c .skip .last .self .at) =
     subst (λ (t : RefT (List ℕ)). c .statement .last .self .at ≡ statement-end (now t) (c .skip .last .self .at)) same (c .in-Continue-statement .ensures tt .after refl) in
     let grown : body (c .push .last .self) ≡ body (c .loop-thread .thread) ++ (c .in-Continue-statement .statement ∷ []) =
