@@ -2,7 +2,7 @@
 -- parts end at what passes q: the separator or p. Then the piece from here on is its first part, the bytes before the first that
 -- passes q, and the parts after that byte, if it was the separator. Words in a statement and statements in a line are such parts,
 -- and so are the lines of a text, where p passes nothing.
-use mathlib.Core.Path.{_≡_, refl, sym, ap, _∙_}
+use mathlib.Core.Path.{_≡_, refl, ap, _∙_}
 use mathlib.Core.List.{List, [], _∷_}
 use mathlib.Core.Bool.{Bool, true, false, cond, _||_}
 use Prim.Native.Nat.{ℕ, _+_, _≤_, _<_}
@@ -12,7 +12,7 @@ use lib.Dec.{eqb}
 use lib.ListN.{length, getD, take, drop}
 use Rattle.std.proofs.shelf.Lists.{at-drop-more, at-drop-all}
 use Rattle.std.proofs.shelf.Tests.{cond-true, cond-false}
-use Rattle.grammar.specs.Pieces.{Piece, piece, widened, split}
+use Rattle.grammar.specs.Pieces.{piece, widened, split}
 use Rattle.cursor.specs.Sight.{before, parts-after, Headed}
 
 -- One byte on, by the offset in a text.

@@ -1,14 +1,13 @@
 -- The table of statements: which words spell a statement, and why a word or its absence is refused.
 use mathlib.Core.Path.{_≡_}
-use mathlib.Core.List.{List, [], _∷_, map}
+use mathlib.Core.List.{List, [], _∷_}
 use mathlib.Core.Bool.{Bool, true, false}
 use Prim.Native.Nat.{ℕ, _+_, _-_, _*_, _≤_, _<_}
 use lib.ListN.{length}
 use lib.Chars.{codes}
 use Rattle.std.specs.shelf.Maps.{nth}
-use Rattle.std.specs.shelf.Text.{allDigits, sameBytes}
-use Rattle.std.specs.declared.option.Option.{Option}
-use Rattle.std.specs.declared.option.Option.the-variants.{Some, None}
+use Rattle.std.specs.shelf.Text.{allDigits}
+use Rattle.std.specs.declared.option.Option.the-variants.{Some}
 use Rattle.lang.specs.declared.syntax.Mode.{Mode}
 use Rattle.lang.specs.declared.syntax.Mode.the-variants.{Relaxed, Acquire, Release, AcquireRelease, SeqCst}
 use Rattle.lang.specs.declared.syntax.Location.{Location}

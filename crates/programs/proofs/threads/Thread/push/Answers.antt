@@ -1,9 +1,7 @@
-use mathlib.Core.Path.{_≡_, refl, sym}
+use mathlib.Core.Path.{refl, sym}
 use native.Mathlib.Omega.{arith}
-use lib.ListN.{length}
 use Rattle.std.proofs.shelf.Lists.{take-more-set, length-take-le}
 use Rattle.std.proofs.shelf.Tests.{lt-ltb, le-ltb, true≢false}
-use Rattle.programs.specs.Parts.{body}
 use Rattle.programs.proofs.threads.Thread.push.Needs as need
 
 pub returns-then-self-eq-MAX-STATEMENTS : need.returns-then-self-eq-MAX-STATEMENTS
