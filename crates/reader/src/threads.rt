@@ -31,10 +31,9 @@ fn statements_after(cursor: &mut Cursor, first: Thread) -> Result<Thread, Fault>
 {
     let mut thread = first;
     while cursor.skip(b';') {
+        let start = cursor.offset();
         if thread.len() > MAX_SEMICOLONS {
-            return Err(Fault::NinthStatement {
-                offset: cursor.offset(),
-            });
+            return Err(Fault::NinthStatement { offset: start });
         }
         let statement = cursor.statement()?;
         thread.push(statement).unwrap();
@@ -68,10 +67,9 @@ fn lines_after(cursor: &mut Cursor, first: Program) -> Result<Program, Fault>
 {
     let mut program = first;
     while next_line(cursor) {
+        let line = cursor.offset();
         if program.len() > MAX_LINE_FEEDS {
-            return Err(Fault::FifthLine {
-                offset: cursor.offset(),
-            });
+            return Err(Fault::FifthLine { offset: line });
         }
         let thread = thread(cursor)?;
         program.push(thread).unwrap();

@@ -31,51 +31,51 @@ Answered r at text = r ≡ read-thread (rest-of-line (now text) at)
 
 pub returns-then-len-gt-MAX-LINE-FEEDS : need.returns-then-len-gt-MAX-LINE-FEEDS
 returns-then-len-gt-MAX-LINE-FEEDS c =
-    let h = subst (Passed (c .loop-program .cursor .at) (c .next-line .last .cursor .at)) (c .loop-program .inv .0) (c .loop-program-test .ensures tt .cases) in
+    let h = subst (Passed (c .loop-cursor .cursor .at) (c .next-line .last .cursor .at)) (c .loop-cursor .inv .0) (c .loop-cursor-test .ensures tt .cases) in
     record {
       value =
-          ap (λ n. Err (FifthLine n)) (c .offset .ensures)
-          ∙ sym (reading-full FifthLine read-thread 4 (bodies (c .loop-program .program)) _ _ _ (line-turn _ _ _ (h .0) (h .2) (h .3)) (omega (arith, c .len .ensures .value, c .if-len-gt-MAX-LINE-FEEDS .taken)))
-          ∙ c .loop-program .inv .1;
+          ap (λ n. Err (FifthLine n)) (c .offset-line .ensures)
+          ∙ sym (reading-full FifthLine read-thread 4 (bodies (c .loop-cursor .program)) _ _ _ (line-turn _ _ _ (h .0) (h .2) (h .3)) (omega (arith, c .len .ensures .value, c .if-len-gt-MAX-LINE-FEEDS .taken)))
+          ∙ c .loop-cursor .inv .1;
     }
 
 pub returns-in-Break-thread : need.returns-in-Break-thread
 returns-in-Break-thread c =
-    let h = subst (Passed (c .loop-program .cursor .at) (c .next-line .last .cursor .at)) (c .loop-program .inv .0) (c .loop-program-test .ensures tt .cases) in
-    let same = c .next-line .ensures .same ∙ c .loop-program .inv .0 in
+    let h = subst (Passed (c .loop-cursor .cursor .at) (c .next-line .last .cursor .at)) (c .loop-cursor .inv .0) (c .loop-cursor-test .ensures tt .cases) in
+    let same = c .next-line .ensures .same ∙ c .loop-cursor .inv .0 in
     let read = subst (Answered (Err (c .in-Break-thread .field-0 .0)) (c .next-line .last .cursor .at)) same (c .in-Break-thread .ensures tt .value) in
-    let room : length (bodies (c .loop-program .program)) < 4 = omega (arith, c .len .ensures .value, c .len .ensures .high-bound, c .if-len-gt-MAX-LINE-FEEDS .left) in
+    let room : length (bodies (c .loop-cursor .program)) < 4 = omega (arith, c .len .ensures .value, c .len .ensures .high-bound, c .if-len-gt-MAX-LINE-FEEDS .left) in
     let p = err-from-errBy (c .from-residual .result) (c .from-residual .ensures .1) in
     rw (p .1, p .2)
     record {
-      value = sym (reading-stops FifthLine read-thread 4 (bodies (c .loop-program .program)) _ _ _ (line-turn _ _ _ (h .0) (h .2) (h .3)) room _ (sym read)) ∙ c .loop-program .inv .1;
+      value = sym (reading-stops FifthLine read-thread 4 (bodies (c .loop-cursor .program)) _ _ _ (line-turn _ _ _ (h .0) (h .2) (h .3)) room _ (sym read)) ∙ c .loop-cursor .inv .1;
     }
 
-pub loop-program-again : need.loop-program-again
-loop-program-again c =
+pub loop-cursor-again : need.loop-cursor-again
+loop-cursor-again c =
     let text = c .args .cursor .now .text in
-    let h = subst (Passed (c .loop-program .cursor .at) (c .next-line .last .cursor .at)) (c .loop-program .inv .0) (c .loop-program-test .ensures tt .cases) in
-    let same = c .next-line .ensures .same ∙ c .loop-program .inv .0 in
+    let h = subst (Passed (c .loop-cursor .cursor .at) (c .next-line .last .cursor .at)) (c .loop-cursor .inv .0) (c .loop-cursor-test .ensures tt .cases) in
+    let same = c .next-line .ensures .same ∙ c .loop-cursor .inv .0 in
     let read = subst (Answered (Ok (body (c .in-Continue-thread .thread))) (c .next-line .last .cursor .at)) same (c .in-Continue-thread .ensures tt .value) in
-    let room : length (bodies (c .loop-program .program)) < 4 = omega (arith, c .len .ensures .value, c .len .ensures .high-bound, c .if-len-gt-MAX-LINE-FEEDS .left) in
+    let room : length (bodies (c .loop-cursor .program)) < 4 = omega (arith, c .len .ensures .value, c .len .ensures .high-bound, c .if-len-gt-MAX-LINE-FEEDS .left) in
     let stop : c .thread .last .cursor .at ≡ line-end (now text) (c .next-line .last .cursor .at) =
     subst (λ (t : RefT (List ℕ)). c .thread .last .cursor .at ≡ line-end (now t) (c .next-line .last .cursor .at)) same (c .in-Continue-thread .ensures tt .after refl) in
-    let grown : bodies (c .push .last .self) ≡ bodies (c .loop-program .program) ++ (body (c .in-Continue-thread .thread) ∷ []) =
+    let grown : bodies (c .push .last .self) ≡ bodies (c .loop-cursor .program) ++ (body (c .in-Continue-thread .thread) ∷ []) =
     c .push .ensures .after ∙ cond-true _ _ _ (ap isOk (c .unwrap .ensures)) in (
       c .thread .ensures .same ∙ same,
       ap (λ xs. reading FifthLine read-thread 4 xs (lines-after (now text) (c .thread .last .cursor .at))) grown
-          ∙ ap (λ n. reading FifthLine read-thread 4 (bodies (c .loop-program .program) ++ (body (c .in-Continue-thread .thread) ∷ [])) (lines-after (now text) n)) stop
-          ∙ sym (reading-more FifthLine read-thread 4 (bodies (c .loop-program .program)) _ _ _ (line-turn _ _ _ (h .0) (h .2) (h .3)) room _ (sym read))
-          ∙ c .loop-program .inv .1,
+          ∙ ap (λ n. reading FifthLine read-thread 4 (bodies (c .loop-cursor .program) ++ (body (c .in-Continue-thread .thread) ∷ [])) (lines-after (now text) n)) stop
+          ∙ sym (reading-more FifthLine read-thread 4 (bodies (c .loop-cursor .program)) _ _ _ (line-turn _ _ _ (h .0) (h .2) (h .3)) room _ (sym read))
+          ∙ c .loop-cursor .inv .1,
       subst (λ n. Headed ends-line (drop n (now text))) (sym stop) (line-headed (now text) (c .next-line .last .cursor .at)),
     )
 
 pub returns : need.returns
 returns c =
     let text = c .args .cursor .now .text in
-    let here = c .loop-program .cursor .at in
-    let last = subst (λ (t : RefT (List ℕ)). here < length (now t) → getD (now t) here 0 ≡ LF → length (now t) ≤ here + 1) (c .loop-program .inv .0) (c .loop-program-test .ensures tt .cases) in
+    let here = c .loop-cursor .cursor .at in
+    let last = subst (λ (t : RefT (List ℕ)). here < length (now t) → getD (now t) here 0 ≡ LF → length (now t) ≤ here + 1) (c .loop-cursor .inv .0) (c .loop-cursor-test .ensures tt .cases) in
     record {
       value =
-          sym (reading-done FifthLine read-thread 4 (bodies (c .loop-program .program)) _ (lines-over (now text) here (c .loop-program .inv .2) last)) ∙ c .loop-program .inv .1;
+          sym (reading-done FifthLine read-thread 4 (bodies (c .loop-cursor .program)) _ (lines-over (now text) here (c .loop-cursor .inv .2) last)) ∙ c .loop-cursor .inv .1;
     }
