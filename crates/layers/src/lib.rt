@@ -1,0 +1,3 @@
+//! Layers that save fences, over any mapping.
+pub mod exchange;
+pub mod sparing;

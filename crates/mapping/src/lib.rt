@@ -1,0 +1,4 @@
+//! What a mapping from statements to x86 is, and the three that are published.
+pub mod interface;
+pub mod placement;
+pub mod published;
