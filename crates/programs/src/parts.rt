@@ -7,6 +7,7 @@ ghost use lib.Dec.{ltb};
 ghost use lib.ListN.{length};
 ghost use Rattle.std.specs.shelf.Maps.{nth};
 ghost use Rattle.std.specs.declared.option.Option.the-variants.{Some, None};
+ghost use Rattle.std.specs.Options.{mapped};
 ghost use Rattle.std.specs.Results.{isOk};
 ghost use Rattle.programs.specs.Parts.{body, bodies, statement-at, statement-count, event-number};
 use super::threads::*;
@@ -94,6 +95,17 @@ impl Program {
         ensures high_bound { λ r. ⌜ r ≤ 4 ⌝ }
     {
         self.len
+    }
+
+    /// A thread of the program, if there is one of that number.
+    pub fn thread(&self, thread: usize) -> Option<Thread>
+        ensures { λ r. ⌜ mapped body r ≡ nth (bodies (now (self .entry))) thread ⌝ }
+    {
+        if thread < self.len {
+            Some(self.threads[thread])
+        } else {
+            None
+        }
     }
 
     /// The number of statements of a thread; 0 where there is no such thread.

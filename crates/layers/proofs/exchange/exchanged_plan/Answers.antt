@@ -7,7 +7,8 @@ use Rattle.programs.specs.Parts.{body}
 use Rattle.mapping.specs.Kinds.{holds-at, is-store}
 use Rattle.mapping.specs.Rule.{nothing}
 use Rattle.layers.specs.Exchange.{swapped, exchanged-at}
-use Rattle.layers.proofs.Filling.{filled-more, plan-read}
+use Rattle.mapping.proofs.Plans.{plan-read}
+use Rattle.layers.proofs.Filling.{filled-more}
 use Rattle.layers.proofs.exchange.exchanged_plan.Needs as need
 
 pub loop-at-again : need.loop-at-again

@@ -12,7 +12,8 @@ use Rattle.programs.specs.Parts.{body}
 use Rattle.mapping.specs.declared.placement.Placement.{Placement}
 use Rattle.mapping.specs.Rule.{nothing}
 use Rattle.layers.specs.Sparing.{pending, kept, still-pending, spared-at}
-use Rattle.layers.proofs.Filling.{filled-more, plan-read}
+use Rattle.mapping.proofs.Plans.{plan-read}
+use Rattle.layers.proofs.Filling.{filled-more}
 use Rattle.layers.proofs.Spared.{spared-spares}
 use Rattle.layers.proofs.Walk.{pending-start}
 use Rattle.layers.proofs.Passing.{kept-turn, pending-turn}
