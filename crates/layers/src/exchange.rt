@@ -5,26 +5,15 @@ ghost use Prim.Native.Nat.{ℕ};
 ghost use Rattle.std.specs.Iters.{counting};
 ghost use Rattle.programs.specs.Parts.{body};
 ghost use Rattle.mapping.specs.declared.placement.Placement.{Placement};
-ghost use Rattle.mapping.specs.Kinds.{is-store, holds-at};
 ghost use Rattle.layers.specs.Exchange.{swapped, exchanged, exchanged-at};
-use lang::syntax::*;
 use mapping::interface::*;
+use mapping::kinds::store_at;
 use mapping::placement::*;
 use programs::threads::*;
 
 /// The mapping below with locked stores in place of stores with a fence after them.
 #[derive(Clone, Copy)]
 pub struct Exchange<M>(pub M);
-
-/// If an `st` stands at a place.
-fn store_at(thread: &Thread, at: usize) -> bool
-    ensures { λ r. ⌜ r ≡ holds-at is-store (body (now (thread .entry))) at ⌝ }
-{
-    match thread.statement(at) {
-        Some(Statement::Store { .. }) => true,
-        _ => false,
-    }
-}
 
 /// What is placed at a statement, by whether it is an `st` and what was placed.
 fn swap(store: bool, placement: Placement) -> Placement

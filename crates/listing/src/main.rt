@@ -13,7 +13,6 @@ use programs::threads::*;
 use std::env;
 use std::error::AnyError;
 use std::io;
-use std::io::Read;
 
 const HELP: &str = "\
 usage: listing [trailing|locked|leading] [sparing|exchange]... < PROGRAM
@@ -65,14 +64,6 @@ fn asked(rt: &LibcRuntime) -> Result<Request, AnyError> {
         take_word(&mut pile, place == 0, word.as_str())?;
     }
     Ok(Request::List(pile))
-}
-
-/// The text on standard input, or as much of it as shows that it is too long.
-fn input(rt: &LibcRuntime) -> io::Result<Vec<u8>> {
-    let mut text = Vec::new(rt.alloc());
-    let limit = reader::MAX_TEXT as u64 + 1;
-    rt.stdin().take(limit).read_to_end(&mut text)?;
-    Ok(text)
 }
 
 /// The next instruction of a thread, on a line of its own, with the statement that it came from.
@@ -150,7 +141,7 @@ fn print_program(rt: &LibcRuntime, pile: &Pile, program: &Program) -> io::Result
 }
 
 fn list(rt: &LibcRuntime, pile: &Pile) -> io::Result<()> {
-    let text = input(rt)?;
+    let text = console::input(rt)?;
     match reader::read(text.as_slice()) {
         Ok(program) => print_program(rt, pile, &program),
         Err(fault) => println!(rt, "{fault}"),
@@ -166,9 +157,5 @@ fn run(rt: &LibcRuntime) -> Result<(), AnyError> {
 }
 
 fn main(rt: LibcRuntime) -> Result<(), AnyError> {
-    let result = run(&rt);
-    if let Err(error) = &result {
-        let _ = eprintln!(rt, "listing: {error}");
-    }
-    result
+    console::ended(&rt, "listing", run(&rt))
 }

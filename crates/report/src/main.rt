@@ -6,7 +6,6 @@ use programs::threads::Program;
 use std::env;
 use std::error::AnyError;
 use std::io;
-use std::io::Read;
 
 const HELP: &str = "\
 usage: report < PROGRAM
@@ -39,14 +38,6 @@ fn asks_for_help(rt: &LibcRuntime) -> Result<bool, AnyError> {
     }
 }
 
-/// The text on standard input, or as much of it as shows that it is too long.
-fn input(rt: &LibcRuntime) -> io::Result<Vec<u8>> {
-    let mut text = Vec::new(rt.alloc());
-    let limit = reader::MAX_TEXT as u64 + 1;
-    rt.stdin().take(limit).read_to_end(&mut text)?;
-    Ok(text)
-}
-
 fn print_event(
     rt: &LibcRuntime,
     thread: usize,
@@ -73,7 +64,7 @@ fn print_program(rt: &LibcRuntime, program: &Program) -> io::Result<()> {
 }
 
 fn report(rt: &LibcRuntime) -> io::Result<()> {
-    let text = input(rt)?;
+    let text = console::input(rt)?;
     match reader::read(text.as_slice()) {
         Ok(program) => print_program(rt, &program),
         Err(fault) => println!(rt, "{fault}"),
@@ -90,9 +81,5 @@ fn run(rt: &LibcRuntime) -> Result<(), AnyError> {
 }
 
 fn main(rt: LibcRuntime) -> Result<(), AnyError> {
-    let result = run(&rt);
-    if let Err(error) = &result {
-        let _ = eprintln!(rt, "report: {error}");
-    }
-    result
+    console::ended(&rt, "report", run(&rt))
 }

@@ -4,34 +4,15 @@
 //! holds, that nothing is placed past the thread's end, and that nothing but an `st` is locked. Both layers can then be piled on it.
 ghost use mathlib.Core.Path.{_≡_};
 ghost use Rattle.programs.specs.Parts.{body};
-ghost use Rattle.mapping.specs.Kinds.{is-store, is-sc-load, holds-at};
 ghost use Rattle.watchful.specs.Meaning.{watchful, preceded};
-use lang::syntax::*;
 use mapping::interface::Mapping;
+use mapping::kinds::*;
 use mapping::placement::Placement;
 use programs::threads::Thread;
 
 /// A fence before each sc `ld` that an `st` precedes.
 #[derive(Clone, Copy)]
 pub struct Watchful;
-
-fn store_at(thread: &Thread, at: usize) -> bool
-    ensures { λ r. ⌜ r ≡ holds-at is-store (body (now (thread .entry))) at ⌝ }
-{
-    match thread.statement(at) {
-        Some(Statement::Store { .. }) => true,
-        _ => false,
-    }
-}
-
-fn sc_load_at(thread: &Thread, at: usize) -> bool
-    ensures { λ r. ⌜ r ≡ holds-at is-sc-load (body (now (thread .entry))) at ⌝ }
-{
-    match thread.statement(at) {
-        Some(Statement::Load { mode, .. }) => mode == Mode::SeqCst,
-        _ => false,
-    }
-}
 
 /// If an `st` stands before a place.
 fn store_before(thread: &Thread, at: usize) -> bool
