@@ -1,4 +1,6 @@
 //! The sets and the relations of RC11 that are found event by event and pair by pair.
+#![tactic(auto)]
+
 pub mod collect;
 mod facts;
 pub mod kinds;

@@ -1,4 +1,6 @@
 //! The compiler: a program and a mapping give code.
+#![tactic(auto)]
+
 pub mod code;
 pub mod notation;
 pub mod parts;

@@ -1,4 +1,6 @@
 //! What all programs do at the console: read a program text, and say why they end with an error.
+#![tactic(auto)]
+
 ghost use Rattle.std.specs.Prelude.{◌≡◌};
 
 use std::io;

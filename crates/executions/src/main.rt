@@ -2,6 +2,8 @@
 //! one of them is consistent. data/reports has executions of programs, for which the outcome, the number of hb pairs and the order to the
 //! outcome before are printed. data/rules has executions that each keep or break a rule, and parts that are no graph. What to compare with
 //! comes from the literature, from an independent model, and for the last by hand from the rules.
+#![tactic(auto)]
+
 mod parts;
 
 use anyhow::anyhow;

@@ -1,4 +1,6 @@
 //! The sixteen ways in which calls refuse, each with its number, pass and place.
+#![tactic(auto)]
+
 ghost use Rattle.std.specs.Prelude.{◌≡◌, ◌++◌, Some};
 ghost use Rattle.faults.specs.Refusals.{refusal, refusal_line, side_pass, search_place};
 

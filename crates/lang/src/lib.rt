@@ -1,4 +1,6 @@
 //! The language: what a statement is made of, and how it is written.
+#![tactic(auto)]
+
 pub mod numbering;
 pub mod spelling;
 pub mod syntax;

@@ -1,3 +1,5 @@
 //! Layers that save fences, over any mapping.
+#![tactic(auto)]
+
 pub mod exchange;
 pub mod sparing;

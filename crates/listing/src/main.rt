@@ -1,4 +1,6 @@
 //! Reads a program text from standard input and prints its x86 listing under the mapping and the layers that the words name.
+#![tactic(auto)]
+
 use anyhow::anyhow;
 use compiler::code::Code;
 use compiler::compile;

@@ -1,5 +1,7 @@
 //! Compiles the texts that data/INDEX names under every published mapping and a mapping of one's own, each alone and below the layers,
 //! and prints the instructions of each thread on a line. The lines to compare with came from a script that the compiler's author wrote.
+#![tactic(auto)]
+
 use anyhow::anyhow;
 use compiler::code::Code;
 use compiler::compile;

@@ -1,4 +1,6 @@
 //! What a mapping from statements to x86 is, and the three that are published.
+#![tactic(auto)]
+
 pub mod interface;
 pub mod kinds;
 pub mod placement;

@@ -1,3 +1,5 @@
 //! The order of the writes of a location.
+#![tactic(auto)]
+
 pub mod order;
 pub mod parts;

@@ -1,4 +1,6 @@
 //! What an execution leaves: the outcome of a graph, and if the graph is one of a program.
+#![tactic(auto)]
+
 mod order;
 pub mod outcome;
 mod source;

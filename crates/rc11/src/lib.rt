@@ -1,4 +1,6 @@
 //! The verdict of RC11 on a graph, and the number of its hb pairs.
+#![tactic(auto)]
+
 mod derived;
 mod verdicts;
 

@@ -1,4 +1,6 @@
 //! From a program text to a program, or to the fault with which the text is refused.
+#![tactic(auto)]
+
 mod threads;
 
 ghost use Rattle.std.specs.Prelude.{◌≡◌};

@@ -1,4 +1,6 @@
 //! Reads a program text from standard input and prints its events, one a line, or the line with which it is refused.
+#![tactic(auto)]
+
 use anyhow::anyhow;
 use lang::syntax::Statement;
 use programs::threads::Program;

@@ -1,5 +1,7 @@
 //! Reads the texts that data/INDEX names, each from its file NAME.in, and prints how each is answered. The answers to compare
 //! with come from an independent model of the reader.
+#![tactic(auto)]
+
 #[cfg(test)]
 mod limits;
 

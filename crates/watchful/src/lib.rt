@@ -2,6 +2,8 @@
 //!
 //! What is needed: the meaning as a definition in specs/, the function that answers it, and in proofs/ the laws: that the fence rule
 //! holds, that nothing is placed past the thread's end, and that nothing but an `st` is locked. Both layers can then be piled on it.
+#![tactic(auto)]
+
 ghost use Rattle.std.specs.Prelude.{◌≡◌};
 ghost use Rattle.programs.specs.Parts.{body};
 ghost use Rattle.watchful.specs.Meaning.{watchful, preceded};
