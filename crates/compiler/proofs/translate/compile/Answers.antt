@@ -22,8 +22,8 @@ loop-number-preserved g c =
     elim c.match-thread.branch [
       | in-Some w ↦
           subst (λ (cs : List ThreadCode). (length cs ≡ 4) × (map instructions_of (take (n + 1) cs) ≡ map f (take (n + 1) ts))) (sym w.threads-is) (
-            length-set c.loop-number.threads n w.compile-thread.result ∙ c.loop-number.invariant.0,
-            collected_more f c.loop-number.threads n w.compile-thread.result ts (body w.in-Some.thread) room inside w.in-Some.ensures w.compile-thread.ensures c.loop-number.invariant.1,
+            length-set c.loop-number.threads n w.compile_thread.result ∙ c.loop-number.invariant.0,
+            collected_more f c.loop-number.threads n w.compile_thread.result ts (body w.in-Some.thread) room inside w.in-Some.ensures w.compile_thread.ensures c.loop-number.invariant.1,
           )
       | in-None w ↦ absurd (not_there ts n [] inside w.in-None.ensures)
     ]

@@ -10,8 +10,8 @@ use Rattle.compiler.proofs.Positions.{length_compiled}
 use Rattle.compiler.proofs.translate.compile_thread.Goals as goal
 use Rattle.compiler.proofs.translate.compile_thread.Goals.{in-Some, in-None}
 
-pub append-statement-requires : goal.append-statement-requires
-append-statement-requires g c =
+pub append_statement-requires : goal.append_statement-requires
+append_statement-requires g c =
     let t = body c.args.thread.now in
     let f = g.M.Mapping.meaning c.args.mapping.now t in
     omega (arith, ap length c.loop-place.invariant, length_compiled f t c.loop-place.place, c.loop-place-test.true, c.len-place-end.ensures.high-bound)
@@ -25,7 +25,7 @@ loop-place-preserved g c =
     elim c.match-statement.branch [
       | in-Some w ↦
           ap instructions_of w.code-is
-          ∙ w.append-statement.ensures
+          ∙ w.append_statement.ensures
           ∙ ap (λ x. x ++ at_statement at (get_or c.plan-plan.result at nothing) w.in-Some.statement) c.loop-place.invariant
           ∙ ap (λ (p : Placement). compiled f t at ++ at_statement at p w.in-Some.statement) (plan_read f c.plan-plan.result at c.plan-plan.ensures inside)
           ∙ compiled_more f t at _ (at_some f t at w.in-Some.statement (sym w.in-Some.ensures))

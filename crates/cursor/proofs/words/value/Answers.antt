@@ -4,21 +4,21 @@ use Rattle.grammar.specs.Table.{number, number_on}
 use Rattle.cursor.proofs.Digits.{number_grows, number_more, number_end}
 use Rattle.cursor.proofs.words.value.Goals as goal
 
-pub returns-then-value-gt-MAX-VALUE : goal.returns-then-value-gt-MAX-VALUE
-returns-then-value-gt-MAX-VALUE c =
+pub returns-then-value-gt-MAX_VALUE : goal.returns-then-value-gt-MAX_VALUE
+returns-then-value-gt-MAX_VALUE c =
     let so_far : ℕ = c.loop-digit.value * 10 + c.from.result in
     let rest = drop (c.loop-digit.digit-index + 1) c.args.digits.now in
     let on : number_on so_far rest ≡ number c.args.digits.now =
-    ap (λ d. number_on (c.loop-digit.value * 10 + d) rest) (c.from.ensures ∙ c.saturating-sub.ensures)
+    ap (λ d. number_on (c.loop-digit.value * 10 + d) rest) (c.from.ensures ∙ c.saturating_sub.ensures)
     ∙ sym (number_more c.loop-digit.value c.args.digits.now c.loop-digit.digit-index (omega arith))
     ∙ c.loop-digit.invariant.1 in
-    let large : 255 < number c.args.digits.now = omega (arith, number_grows so_far rest, c.if-value-gt-MAX-VALUE.true, on) in
+    let large : 255 < number c.args.digits.now = omega (arith, number_grows so_far rest, c.if-value-gt-MAX_VALUE.true, on) in
     sym (cond-false _ _ _ (lt-leb _ _ large))
 
 pub loop-digit-preserved : goal.loop-digit-preserved
 loop-digit-preserved c = (
   omega arith,
-  ap (λ d. number_on (c.loop-digit.value * 10 + d) (drop (c.loop-digit.digit-index + 1) c.args.digits.now)) (c.from.ensures ∙ c.saturating-sub.ensures)
+  ap (λ d. number_on (c.loop-digit.value * 10 + d) (drop (c.loop-digit.digit-index + 1) c.args.digits.now)) (c.from.ensures ∙ c.saturating_sub.ensures)
       ∙ sym (number_more c.loop-digit.value c.args.digits.now c.loop-digit.digit-index (omega arith))
       ∙ c.loop-digit.invariant.1,
 )

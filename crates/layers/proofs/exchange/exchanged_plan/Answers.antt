@@ -15,7 +15,7 @@ loop-at-preserved c = (
   λ f e.
       filled_more (exchanged_at f (body c.args.thread.now)) c.loop-at.plan c.loop-at.at c.swap.result (omega (arith, c.loop-at.invariant.0))
       (c.swap.ensures
-      ∙ ap (λ b. swapped b (get_or c.args.below c.loop-at.at nothing)) c.store-at.ensures
+      ∙ ap (λ b. swapped b (get_or c.args.below c.loop-at.at nothing)) c.store_at.ensures
       ∙ ap (swapped (holds_at is_store (body c.args.thread.now) c.loop-at.at)) (plan_read f c.args.below c.loop-at.at e (omega arith)))
       (c.loop-at.invariant.1 f e),
 )

@@ -10,5 +10,5 @@ use Rattle.rc11.proofs.verdicts.hb_pairs.Goals as goal
 pub returns : goal.returns
 returns c =
     let g = c.args.graph.now in
-    let count = c.statement-pairs.ensures.value ∙ ap (pairs_below 32) c.happens-before.ensures.value in
+    let count = c.statement_pairs.ensures.value ∙ ap (pairs_below 32) c.happens_before.ensures.value in
     record { value = count; number = subst (NumberOfPairs (Hb (view g))) (sym count) (hb_number (view g) (bounded g)) }

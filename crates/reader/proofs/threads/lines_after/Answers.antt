@@ -21,22 +21,22 @@ Passed at then text = (at < length text.now) × (get_or text.now at 0 ≡ LF) ×
 abbrev Answered : Result (List Statement) Fault → ℕ → Bor (List ℕ) → Type 0
 Answered r at text = r ≡ read_thread (rest_of_line text.now at)
 
-pub returns-then-len-gt-MAX-LINE-FEEDS : goal.returns-then-len-gt-MAX-LINE-FEEDS
-returns-then-len-gt-MAX-LINE-FEEDS c =
-    let h = subst (Passed c.loop-cursor.cursor.at c.next-line.new.cursor.at) c.loop-cursor.invariant.0 c.loop-cursor-test.ensures.cases in
+pub returns-then-len-gt-MAX_LINE_FEEDS : goal.returns-then-len-gt-MAX_LINE_FEEDS
+returns-then-len-gt-MAX_LINE_FEEDS c =
+    let h = subst (Passed c.loop-cursor.cursor.at c.next_line.new.cursor.at) c.loop-cursor.invariant.0 c.loop-cursor-test.ensures.cases in
     record {
       value =
           ap (λ n. Err (FifthLine n)) c.offset-line.ensures
-          ∙ sym (reading_full FifthLine read_thread 4 (bodies c.loop-cursor.program) _ _ _ (line_turn _ _ _ h.0 h.2 h.3) (omega (arith, c.len.ensures.value, c.if-len-gt-MAX-LINE-FEEDS.true)))
+          ∙ sym (reading_full FifthLine read_thread 4 (bodies c.loop-cursor.program) _ _ _ (line_turn _ _ _ h.0 h.2 h.3) (omega (arith, c.len.ensures.value, c.if-len-gt-MAX_LINE_FEEDS.true)))
           ∙ c.loop-cursor.invariant.1;
     }
 
-pub returns-in-err-thread : goal.returns-in-err-thread
-returns-in-err-thread c =
-    let h = subst (Passed c.loop-cursor.cursor.at c.next-line.new.cursor.at) c.loop-cursor.invariant.0 c.loop-cursor-test.ensures.cases in
-    let same = c.next-line.ensures.same ∙ c.loop-cursor.invariant.0 in
-    let read = subst (Answered (Err c.in-err-thread.field-0.0) c.next-line.new.cursor.at) same c.in-err-thread.ensures.value in
-    let room : length (bodies c.loop-cursor.program) < 4 = omega (arith, c.len.ensures.value, c.len.ensures.high-bound, c.if-len-gt-MAX-LINE-FEEDS.false) in
+pub returns-in_err-thread : goal.returns-in_err-thread
+returns-in_err-thread c =
+    let h = subst (Passed c.loop-cursor.cursor.at c.next_line.new.cursor.at) c.loop-cursor.invariant.0 c.loop-cursor-test.ensures.cases in
+    let same = c.next_line.ensures.same ∙ c.loop-cursor.invariant.0 in
+    let read = subst (Answered (Err c.in_err-thread.field-0.0) c.next_line.new.cursor.at) same c.in_err-thread.ensures.value in
+    let room : length (bodies c.loop-cursor.program) < 4 = omega (arith, c.len.ensures.value, c.len.ensures.high-bound, c.if-len-gt-MAX_LINE_FEEDS.false) in
     let p = err_from_is_err_and c.from-residual.result c.from-residual.ensures.1 in
     rw (p.1, p.2)
     record {
@@ -46,20 +46,20 @@ returns-in-err-thread c =
 pub loop-cursor-preserved : goal.loop-cursor-preserved
 loop-cursor-preserved c =
     let text = c.args.cursor.now.text in
-    let h = subst (Passed c.loop-cursor.cursor.at c.next-line.new.cursor.at) c.loop-cursor.invariant.0 c.loop-cursor-test.ensures.cases in
-    let same = c.next-line.ensures.same ∙ c.loop-cursor.invariant.0 in
-    let read = subst (Answered (Ok (body c.in-ok-thread.thread)) c.next-line.new.cursor.at) same c.in-ok-thread.ensures.value in
-    let room : length (bodies c.loop-cursor.program) < 4 = omega (arith, c.len.ensures.value, c.len.ensures.high-bound, c.if-len-gt-MAX-LINE-FEEDS.false) in
-    let stop : c.thread.new.cursor.at ≡ line_end text.now c.next-line.new.cursor.at =
-    subst (λ (t : Bor (List ℕ)). c.thread.new.cursor.at ≡ line_end t.now c.next-line.new.cursor.at) same (c.in-ok-thread.ensures.after refl) in
-    let grown : bodies c.push.new.self ≡ bodies c.loop-cursor.program ++ (body c.in-ok-thread.thread ∷ []) =
+    let h = subst (Passed c.loop-cursor.cursor.at c.next_line.new.cursor.at) c.loop-cursor.invariant.0 c.loop-cursor-test.ensures.cases in
+    let same = c.next_line.ensures.same ∙ c.loop-cursor.invariant.0 in
+    let read = subst (Answered (Ok (body c.in_ok-thread.thread)) c.next_line.new.cursor.at) same c.in_ok-thread.ensures.value in
+    let room : length (bodies c.loop-cursor.program) < 4 = omega (arith, c.len.ensures.value, c.len.ensures.high-bound, c.if-len-gt-MAX_LINE_FEEDS.false) in
+    let stop : c.thread.new.cursor.at ≡ line_end text.now c.next_line.new.cursor.at =
+    subst (λ (t : Bor (List ℕ)). c.thread.new.cursor.at ≡ line_end t.now c.next_line.new.cursor.at) same (c.in_ok-thread.ensures.after refl) in
+    let grown : bodies c.push.new.self ≡ bodies c.loop-cursor.program ++ (body c.in_ok-thread.thread ∷ []) =
     c.push.ensures.after ∙ cond-true _ _ _ (ap is_ok c.unwrap.ensures) in (
       c.thread.ensures.same ∙ same,
       ap (λ xs. reading FifthLine read_thread 4 xs (lines_after text.now c.thread.new.cursor.at)) grown
-          ∙ ap (λ n. reading FifthLine read_thread 4 (bodies c.loop-cursor.program ++ (body c.in-ok-thread.thread ∷ [])) (lines_after text.now n)) stop
+          ∙ ap (λ n. reading FifthLine read_thread 4 (bodies c.loop-cursor.program ++ (body c.in_ok-thread.thread ∷ [])) (lines_after text.now n)) stop
           ∙ sym (reading_more FifthLine read_thread 4 (bodies c.loop-cursor.program) _ _ _ (line_turn _ _ _ h.0 h.2 h.3) room _ (sym read))
           ∙ c.loop-cursor.invariant.1,
-      subst (λ n. Headed ends_line (drop n text.now)) (sym stop) (line_headed text.now c.next-line.new.cursor.at),
+      subst (λ n. Headed ends_line (drop n text.now)) (sym stop) (line_headed text.now c.next_line.new.cursor.at),
     )
 
 pub returns : goal.returns

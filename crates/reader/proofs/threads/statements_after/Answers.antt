@@ -22,22 +22,22 @@ Passed at then text = (at < length text.now) × (get_or text.now at 0 ≡ SEMICO
 abbrev Answered : Result Statement Fault → ℕ → Bor (List ℕ) → Type 0
 Answered r at text = r ≡ read_statement (rest_of_statement text.now at)
 
-pub returns-then-len-gt-MAX-SEMICOLONS : goal.returns-then-len-gt-MAX-SEMICOLONS
-returns-then-len-gt-MAX-SEMICOLONS c =
+pub returns-then-len-gt-MAX_SEMICOLONS : goal.returns-then-len-gt-MAX_SEMICOLONS
+returns-then-len-gt-MAX_SEMICOLONS c =
     let h = subst (Passed c.loop-cursor.cursor.at c.skip.new.self.at) c.loop-cursor.invariant.0 c.loop-cursor-test.ensures.cases in
     record {
       same = c.skip.ensures.same ∙ c.loop-cursor.invariant.0;
       forward = omega (arith, c.loop-cursor.invariant.1, h.2);
-      value = ap (λ n. Err (NinthStatement n)) c.offset-start.ensures ∙ sym (reading_full NinthStatement read_statement 8 (body c.loop-cursor.thread) _ _ _ (statement_turn _ _ _ h.0 h.1 h.2) (omega (arith, c.len.ensures.value, c.if-len-gt-MAX-SEMICOLONS.true))) ∙ c.loop-cursor.invariant.2;
+      value = ap (λ n. Err (NinthStatement n)) c.offset-start.ensures ∙ sym (reading_full NinthStatement read_statement 8 (body c.loop-cursor.thread) _ _ _ (statement_turn _ _ _ h.0 h.1 h.2) (omega (arith, c.len.ensures.value, c.if-len-gt-MAX_SEMICOLONS.true))) ∙ c.loop-cursor.invariant.2;
       after = λ e. absurd (false≢true e);
     }
 
-pub returns-in-err-statement : goal.returns-in-err-statement
-returns-in-err-statement c =
+pub returns-in_err-statement : goal.returns-in_err-statement
+returns-in_err-statement c =
     let h = subst (Passed c.loop-cursor.cursor.at c.skip.new.self.at) c.loop-cursor.invariant.0 c.loop-cursor-test.ensures.cases in
     let same = c.skip.ensures.same ∙ c.loop-cursor.invariant.0 in
-    let read = subst (Answered (Err c.in-err-statement.field-0.0) c.skip.new.self.at) same c.in-err-statement.ensures.value in
-    let room : length (body c.loop-cursor.thread) < 8 = omega (arith, c.len.ensures.value, c.len.ensures.high-bound, c.if-len-gt-MAX-SEMICOLONS.false) in
+    let read = subst (Answered (Err c.in_err-statement.field-0.0) c.skip.new.self.at) same c.in_err-statement.ensures.value in
+    let room : length (body c.loop-cursor.thread) < 8 = omega (arith, c.len.ensures.value, c.len.ensures.high-bound, c.if-len-gt-MAX_SEMICOLONS.false) in
     let p = err_from_is_err_and c.from-residual.result c.from-residual.ensures.1 in
     rw (p.1, p.2)
     record {
@@ -52,16 +52,16 @@ loop-cursor-preserved c =
     let text = c.args.cursor.now.text in
     let h = subst (Passed c.loop-cursor.cursor.at c.skip.new.self.at) c.loop-cursor.invariant.0 c.loop-cursor-test.ensures.cases in
     let same = c.skip.ensures.same ∙ c.loop-cursor.invariant.0 in
-    let read = subst (Answered (Ok c.in-ok-statement.statement) c.skip.new.self.at) same c.in-ok-statement.ensures.value in
-    let room : length (body c.loop-cursor.thread) < 8 = omega (arith, c.len.ensures.value, c.len.ensures.high-bound, c.if-len-gt-MAX-SEMICOLONS.false) in
+    let read = subst (Answered (Ok c.in_ok-statement.statement) c.skip.new.self.at) same c.in_ok-statement.ensures.value in
+    let room : length (body c.loop-cursor.thread) < 8 = omega (arith, c.len.ensures.value, c.len.ensures.high-bound, c.if-len-gt-MAX_SEMICOLONS.false) in
     let stop : c.statement.new.self.at ≡ statement_end text.now c.skip.new.self.at =
-    subst (λ (t : Bor (List ℕ)). c.statement.new.self.at ≡ statement_end t.now c.skip.new.self.at) same (c.in-ok-statement.ensures.after refl) in
-    let grown : body c.push.new.self ≡ body c.loop-cursor.thread ++ (c.in-ok-statement.statement ∷ []) =
+    subst (λ (t : Bor (List ℕ)). c.statement.new.self.at ≡ statement_end t.now c.skip.new.self.at) same (c.in_ok-statement.ensures.after refl) in
+    let grown : body c.push.new.self ≡ body c.loop-cursor.thread ++ (c.in_ok-statement.statement ∷ []) =
     c.push.ensures.after ∙ cond-true _ _ _ (ap is_ok c.unwrap.ensures) in (
       c.statement.ensures.same ∙ same,
       omega (arith, c.loop-cursor.invariant.1, h.2, c.statement.ensures.forward),
       ap (λ xs. thread_from text.now xs c.statement.new.self.at) grown
-          ∙ ap (thread_from text.now (body c.loop-cursor.thread ++ (c.in-ok-statement.statement ∷ []))) stop
+          ∙ ap (thread_from text.now (body c.loop-cursor.thread ++ (c.in_ok-statement.statement ∷ []))) stop
           ∙ sym (reading_more NinthStatement read_statement 8 (body c.loop-cursor.thread) _ _ _ (statement_turn _ _ _ h.0 h.1 h.2) room _ (sym read))
           ∙ c.loop-cursor.invariant.2,
       ap (line_end text.now) stop ∙ statement_turn_line _ _ _ h.0 h.1 h.2 ∙ c.loop-cursor.invariant.3,

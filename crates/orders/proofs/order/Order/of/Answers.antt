@@ -9,7 +9,7 @@ pub loop-write-preserved : goal.loop-write-preserved
 loop-write-preserved c =
     let w = get_or c.args.writes.now c.loop-write.write-index 0 in
     c.push.ensures.after
-    ∙ cond-true (is_ok c.push.result) (members c.loop-write.order ++ (w ∷ [])) (members c.loop-write.order) c.if-is-err.ensures.negation
+    ∙ cond-true (is_ok c.push.result) (members c.loop-write.order ++ (w ∷ [])) (members c.loop-write.order) c.if-is_err.ensures.negation
     ∙ ap (λ (xs : List ℕ). xs ++ (w ∷ [])) c.loop-write.invariant
     ∙ sym (take_more c.args.writes.now c.loop-write.write-index 0 (omega arith))
 

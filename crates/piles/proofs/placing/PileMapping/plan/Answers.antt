@@ -11,7 +11,7 @@ use Rattle.piles.proofs.placing.PileMapping.plan.Goals as goal
 use Rattle.piles.proofs.placing.PileMapping.plan.Goals.{in-Sparing, in-Exchange}
 
 pub loop-layer-init : goal.loop-layer-init
-loop-layer-init c = (base_meaning c.args.self.now.base, c.base-plan-plan.ensures, refl)
+loop-layer-init c = (base_meaning c.args.self.now.base, c.base_plan-plan.ensures, refl)
 
 -- A layer more: the layers still to come are one less.
 turn : (f : List Statement → ℕ → Placement) (ls : List Layer) (i : ℕ) (l : Layer) → i < length ls → get_or ls i Sparing ≡ l → piled f (drop i ls) ≡ piled (layered l f) (drop (i + 1) ls)
@@ -19,27 +19,27 @@ turn f ls i l h e = at_drop_more (piled f) ls i Sparing h ∙ ap (λ k. piled (l
 
 pub loop-layer-preserved : goal.loop-layer-preserved
 loop-layer-preserved c =
-    let ls = c.as-slice-layers.result.now in
+    let ls = c.as_slice-layers.result.now in
     let i = c.loop-layer.layer-index in
     let f : List Statement → ℕ → Placement = c.loop-layer.invariant.0 in
     elim c.match-layer.branch [
       | in-Sparing w ↦ (
         layered Sparing f,
-        w.plan-is ∙ (w.spared-plan-plan.ensures (f (body c.args.thread.now)) c.loop-layer.invariant.1).0,
+        w.plan-is ∙ (w.spared_plan-plan.ensures (f (body c.args.thread.now)) c.loop-layer.invariant.1).0,
         sym (turn f ls i Sparing (omega arith) w.in-Sparing.is) ∙ c.loop-layer.invariant.2,
       )
       | in-Exchange w ↦ (
         layered Exchange f,
-        w.plan-is ∙ w.exchanged-plan-plan.ensures (f (body c.args.thread.now)) c.loop-layer.invariant.1,
+        w.plan-is ∙ w.exchanged_plan-plan.ensures (f (body c.args.thread.now)) c.loop-layer.invariant.1,
         sym (turn f ls i Exchange (omega arith) w.in-Exchange.is) ∙ c.loop-layer.invariant.2,
       )
     ]
 
 pub returns : goal.returns
 returns c =
-    let ls = c.as-slice-layers.result.now in
+    let ls = c.as_slice-layers.result.now in
     c.loop-layer.invariant.1
     ∙ ap (λ (g : List Statement → ℕ → Placement). map (g (body c.args.thread.now)) (range_with_len 0 8))
     (sym (at_drop_all (piled c.loop-layer.invariant.0) ls c.loop-layer.layer-index (omega arith))
     ∙ c.loop-layer.invariant.2
-    ∙ ap (piled (base_meaning c.args.self.now.base)) c.as-slice-layers.ensures.value)
+    ∙ ap (piled (base_meaning c.args.self.now.base)) c.as_slice-layers.ensures.value)

@@ -7,6 +7,6 @@ pub returns : goal.returns
 returns c =
     record {
       value = length_used_map body c.args.self.now.threads c.args.self.now.len (omega arith);
-      low-bound = omega arith;
-      high-bound = omega arith;
+      low_bound = omega arith;
+      high_bound = omega arith;
     }

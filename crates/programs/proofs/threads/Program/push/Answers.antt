@@ -6,8 +6,8 @@ use Rattle.programs.specs.Parts.{body}
 use Rattle.programs.proofs.Used.{length_used_map}
 use Rattle.programs.proofs.threads.Program.push.Goals as goal
 
-pub returns-then-self-eq-MAX-THREADS : goal.returns-then-self-eq-MAX-THREADS
-returns-then-self-eq-MAX-THREADS c =
+pub returns-then-self-eq-MAX_THREADS : goal.returns-then-self-eq-MAX_THREADS
+returns-then-self-eq-MAX_THREADS c =
     let size = length_used_map body c.args.self.now.threads c.args.self.now.len (omega arith) in
     record { test = sym (le-ltb _ _ (omega (arith, size))); after = refl; same = λ e. refl }
 

@@ -6,7 +6,7 @@ pub returns-then-thread-self : goal.returns-then-thread-self
 returns-then-thread-self c =
     record {
       value = c.len.ensures.value ∙ count_used c.args.self.now.threads c.args.self.now.len c.args.thread _ (omega arith) (omega arith);
-      bound = c.len.ensures.high-bound;
+      bound = c.len.ensures.high_bound;
     }
 
 pub returns-else-thread-self : goal.returns-else-thread-self

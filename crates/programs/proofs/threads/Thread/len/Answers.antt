@@ -6,6 +6,6 @@ pub returns : goal.returns
 returns c =
     record {
       value = sym (length-take-le c.args.self.now.len c.args.self.now.statements (omega arith));
-      low-bound = omega arith;
-      high-bound = omega arith;
+      low_bound = omega arith;
+      high_bound = omega arith;
     }

@@ -3,8 +3,8 @@ use Rattle.std.proofs.lemmas.List.{take_more_set, length-take-le}
 use Rattle.std.proofs.lemmas.Bool.{lt-ltb, le-ltb, true≢false}
 use Rattle.programs.proofs.threads.Thread.push.Goals as goal
 
-pub returns-then-self-eq-MAX-STATEMENTS : goal.returns-then-self-eq-MAX-STATEMENTS
-returns-then-self-eq-MAX-STATEMENTS c =
+pub returns-then-self-eq-MAX_STATEMENTS : goal.returns-then-self-eq-MAX_STATEMENTS
+returns-then-self-eq-MAX_STATEMENTS c =
     let size = length-take-le c.args.self.now.len c.args.self.now.statements (omega arith) in
     record { test = sym (le-ltb _ _ (omega (arith, size))); after = refl; same = λ e. refl }
 

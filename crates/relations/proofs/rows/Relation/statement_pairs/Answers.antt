@@ -6,8 +6,8 @@ use Rattle.relations.proofs.rows.Relation.statement_pairs.Goals as goal
 pub loop-a-init : goal.loop-a-init
 loop-a-init c = (sym (summed_none _), omega arith)
 
-pub overflow-add-sum : goal.overflow-add-sum
-overflow-add-sum c = omega (arith, c.loop-a.invariant.1, ones_few (row c.args.self.now.rows c.loop-a.a))
+pub overflow_add-sum : goal.overflow_add-sum
+overflow_add-sum c = omega (arith, c.loop-a.invariant.1, ones_few (row c.args.self.now.rows c.loop-a.a))
 
 pub loop-a-preserved : goal.loop-a-preserved
 loop-a-preserved c =
