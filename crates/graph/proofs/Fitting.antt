@@ -1,5 +1,5 @@
 -- Which numbers a write of a location can have, and what the tests and loops over orders decide.
-use Rattle.std.proofs.Common.{◌≡◌, ℕ, ◌+◌, ◌-◌, ◌<◌, ◌≤◌, Bool, true, false, eqb, List, [], ◌∷◌, map, length, get_or, Some, None, Decides, Option, sym, ap, ◌∙◌, subst, inl, inr, arith, MatchOption}
+use Rattle.std.proofs.Common.{◌≡◌, ℕ, ◌-◌, ◌<◌, ◌≤◌, Bool, true, false, eqb, List, [], ◌∷◌, map, length, get_or, Some, None, Decides, Option, sym, ap, ◌∙◌, subst, inl, inr, arith}
 use Rattle.std.specs.List.{slice_get}
 use Rattle.std.proofs.lemmas.Option.{slice_get-get_or, slice_get_past}
 use Rattle.std.proofs.lemmas.Bool.{eqb-true, false≢true, both_ways, cond-false, le-ltb, cases_lt}
@@ -45,11 +45,6 @@ writes_below_36 events l w e =
       | inl h ↦ h
       | inr h ↦ absurd (false≢true (sym (ap (λ (o : Option Event). at_location l (said written_by None o)) (no_event events w h)) ∙ e))
     ]
-
--- The entry at the first place, if there is one, decides what an order begins with.
-pub begins_decided : (xs : List ℕ) (l : ℕ) (b : Bool) → MatchOption (slice_get xs 0) (b ≡ false) (λ w. Decides b (w ≡ 32 + l)) → Decides b (get_or xs 0 0 ≡ 32 + l)
-begins_decided [] l b none = (λ t. absurd (both_ways b none t), λ (e : 0 ≡ 32 + l). absurd (omega arith))
-begins_decided (x ∷ xs) l b d = d
 
 -- No place of an order is without an entry.
 pub not_without : (xs : List ℕ) (i : ℕ) → i < length xs → None ≡ slice_get xs i → ⊥

@@ -1,5 +1,5 @@
 -- What every graph has: its sources and its orders fit its events.
-use Rattle.std.specs.Prelude.{◌≡◌, ℕ, ◌+◌, ◌<◌, Bool, true, false, not, ◌&&◌, List, [], length, get_or, is_some, Some, None, Option, ◌==◌, nat_eq, slice_index, slice_index_or}
+use Rattle.std.specs.Prelude.{◌≡◌, ℕ, ◌+◌, ◌<◌, Bool, true, false, not, ◌&&◌, List, [], length, is_some, Some, None, Option, ◌==◌, nat_eq, slice_index, slice_index_or}
 use Rattle.lang.specs.Numbering.{location_index}
 use Rattle.events.specs.declared.event.Event.{Event}
 use Rattle.events.specs.declared.event.Access.{Access}
@@ -43,7 +43,7 @@ EachOnce orders = (l i : ℕ) → Stands orders l i → position (slice_index_or
 
 -- The same of one order and its location.
 pub record OrderFits (events : List (Option Event)) (order : List ℕ) (l : ℕ) : Type 0 where
-  pub begins : get_or order 0 0 ≡ 32 + l
+  pub begins : slice_index order 0 ≡ 32 + l
   pub only : (i : ℕ) → i < length order → writes_to events l (slice_index order i) ≡ true
   pub all : (w : ℕ) → writes_to events l w ≡ true → position order w < length order
   pub once : (i : ℕ) → i < length order → position order (slice_index order i) ≡ i
