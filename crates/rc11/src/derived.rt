@@ -11,8 +11,8 @@ use relations::rows::*;
 
 /// rb: from a read to the writes after its source, but not to itself.
 pub(crate) fn reads_before(graph: &Graph, rf: &Relation, mo: &Relation) -> Relation
-    requires rows_value { rf.now.rows ≡ rf_rows (view graph.now) }
-    requires rows_value_2 { mo.now.rows ≡ mo_rows (view graph.now) }
+    requires rf_is { rf.now.rows ≡ rf_rows (view graph.now) }
+    requires mo_is { mo.now.rows ≡ mo_rows (view graph.now) }
     ensures { result.rows ≡ rb_rows (view graph.now) }
 {
     rf.inverse().then(mo).common(&relation(graph, Pairs::Apart))
@@ -20,9 +20,9 @@ pub(crate) fn reads_before(graph: &Graph, rf: &Relation, mo: &Relation) -> Relat
 
 /// eco: one or more steps of rf, mo or rb.
 pub(crate) fn communication(graph: &Graph, rf: &Relation, mo: &Relation, rb: &Relation) -> Relation
-    requires rows_value { rf.now.rows ≡ rf_rows (view graph.now) }
-    requires rows_value_2 { mo.now.rows ≡ mo_rows (view graph.now) }
-    requires rows_value_3 { rb.now.rows ≡ rb_rows (view graph.now) }
+    requires rf_is { rf.now.rows ≡ rf_rows (view graph.now) }
+    requires mo_is { mo.now.rows ≡ mo_rows (view graph.now) }
+    requires rb_is { rb.now.rows ≡ rb_rows (view graph.now) }
     ensures { result.rows ≡ eco_rows (view graph.now) }
 {
     rf.union(&mo.union(rb)).closure()
@@ -58,8 +58,8 @@ fn acquired(graph: &Graph, sb: &Relation) -> Relation
 
 /// sw: what is released, handed on by a release sequence, read and acquired.
 fn synchronizes(graph: &Graph, sb: &Relation, rf: &Relation) -> Relation
-    requires rows_value { sb.now.rows ≡ sb_rows (view graph.now) }
-    requires rows_value_2 { rf.now.rows ≡ rf_rows (view graph.now) }
+    requires sb_is { sb.now.rows ≡ sb_rows (view graph.now) }
+    requires rf_is { rf.now.rows ≡ rf_rows (view graph.now) }
     ensures { result.rows ≡ sw_rows (view graph.now) }
 {
     let read = rf.then(&acquired(graph, sb));
@@ -68,8 +68,8 @@ fn synchronizes(graph: &Graph, sb: &Relation, rf: &Relation) -> Relation
 
 /// hb: one or more steps of sb or sw.
 pub(crate) fn happens(graph: &Graph, sb: &Relation, rf: &Relation) -> Relation
-    requires rows_value { sb.now.rows ≡ sb_rows (view graph.now) }
-    requires rows_value_2 { rf.now.rows ≡ rf_rows (view graph.now) }
+    requires sb_is { sb.now.rows ≡ sb_rows (view graph.now) }
+    requires rf_is { rf.now.rows ≡ rf_rows (view graph.now) }
     ensures { result.rows ≡ hb_rows (view graph.now) }
 {
     sb.union(&synchronizes(graph, sb, rf)).closure()
@@ -83,10 +83,10 @@ pub(crate) fn sc_before(
     mo: &Relation,
     rb: &Relation,
 ) -> Relation
-    requires rows_value { sb.now.rows ≡ sb_rows (view graph.now) }
-    requires rows_value_2 { hb.now.rows ≡ hb_rows (view graph.now) }
-    requires rows_value_3 { mo.now.rows ≡ mo_rows (view graph.now) }
-    requires rows_value_4 { rb.now.rows ≡ rb_rows (view graph.now) }
+    requires sb_is { sb.now.rows ≡ sb_rows (view graph.now) }
+    requires hb_is { hb.now.rows ≡ hb_rows (view graph.now) }
+    requires mo_is { mo.now.rows ≡ mo_rows (view graph.now) }
+    requires rb_is { rb.now.rows ≡ rb_rows (view graph.now) }
     ensures { result.rows ≡ scb_rows (view graph.now) }
 {
     let sharing = relation(graph, Pairs::Shares);
@@ -97,8 +97,8 @@ pub(crate) fn sc_before(
 
 /// psc, first form: scb between sc events, or sc fences before and after.
 fn partial_sc(graph: &Graph, hb: &Relation, scb: &Relation) -> Relation
-    requires rows_value { hb.now.rows ≡ hb_rows (view graph.now) }
-    requires rows_value_2 { scb.now.rows ≡ scb_rows (view graph.now) }
+    requires hb_is { hb.now.rows ≡ hb_rows (view graph.now) }
+    requires scb_is { scb.now.rows ≡ scb_rows (view graph.now) }
     ensures { result.rows ≡ psc_base_rows (view graph.now) }
 {
     let itself = Relation::identity(events(graph, Property::Sc));
@@ -110,8 +110,8 @@ fn partial_sc(graph: &Graph, hb: &Relation, scb: &Relation) -> Relation
 
 /// psc, second form: hb, or hb, eco, hb, between sc fences.
 fn fence_sc(graph: &Graph, hb: &Relation, eco: &Relation) -> Relation
-    requires rows_value { hb.now.rows ≡ hb_rows (view graph.now) }
-    requires rows_value_2 { eco.now.rows ≡ eco_rows (view graph.now) }
+    requires hb_is { hb.now.rows ≡ hb_rows (view graph.now) }
+    requires eco_is { eco.now.rows ≡ eco_rows (view graph.now) }
     ensures { result.rows ≡ psc_fence_rows (view graph.now) }
 {
     let fences = events(graph, Property::ScFence);
@@ -121,9 +121,9 @@ fn fence_sc(graph: &Graph, hb: &Relation, eco: &Relation) -> Relation
 
 /// psc in its two forms.
 pub(crate) fn sc_steps(graph: &Graph, hb: &Relation, eco: &Relation, scb: &Relation) -> Relation
-    requires rows_value { hb.now.rows ≡ hb_rows (view graph.now) }
-    requires rows_value_2 { eco.now.rows ≡ eco_rows (view graph.now) }
-    requires rows_value_3 { scb.now.rows ≡ scb_rows (view graph.now) }
+    requires hb_is { hb.now.rows ≡ hb_rows (view graph.now) }
+    requires eco_is { eco.now.rows ≡ eco_rows (view graph.now) }
+    requires scb_is { scb.now.rows ≡ scb_rows (view graph.now) }
     ensures { result.rows ≡ psc_rows (view graph.now) }
 {
     partial_sc(graph, hb, scb).union(&fence_sc(graph, hb, eco))

@@ -18,8 +18,8 @@ use relations::rows::*;
 
 /// If sb and rf together have no cycle.
 fn has_no_thin_air(graph: &Graph, sb: &Relation, rf: &Relation) -> bool
-    requires rows_value { sb.now.rows ≡ sb_rows (view graph.now) }
-    requires rows_value_2 { rf.now.rows ≡ rf_rows (view graph.now) }
+    requires sb_is { sb.now.rows ≡ sb_rows (view graph.now) }
+    requires rf_is { rf.now.rows ≡ rf_rows (view graph.now) }
     ensures { result ≡ keeps_1 (view graph.now) }
 {
     sb.union(rf).closure().is_irreflexive()
@@ -27,8 +27,8 @@ fn has_no_thin_air(graph: &Graph, sb: &Relation, rf: &Relation) -> bool
 
 /// If no event a has a hb a, or a hb b with b eco a.
 fn is_coherent(graph: &Graph, hb: &Relation, eco: &Relation) -> bool
-    requires rows_value { hb.now.rows ≡ hb_rows (view graph.now) }
-    requires rows_value_2 { eco.now.rows ≡ eco_rows (view graph.now) }
+    requires hb_is { hb.now.rows ≡ hb_rows (view graph.now) }
+    requires eco_is { eco.now.rows ≡ eco_rows (view graph.now) }
     ensures { result ≡ keeps_2 (view graph.now) }
 {
     hb.is_irreflexive() && hb.then(eco).is_irreflexive()
@@ -36,8 +36,8 @@ fn is_coherent(graph: &Graph, hb: &Relation, eco: &Relation) -> bool
 
 /// If each update stands in mo directly after its source.
 fn is_atomic(graph: &Graph, rf: &Relation, mo: &Relation) -> bool
-    requires rows_value { rf.now.rows ≡ rf_rows (view graph.now) }
-    requires rows_value_2 { mo.now.rows ≡ mo_rows (view graph.now) }
+    requires rf_is { rf.now.rows ≡ rf_rows (view graph.now) }
+    requires mo_is { mo.now.rows ≡ mo_rows (view graph.now) }
     ensures { result ≡ keeps_3 (view graph.now) }
 {
     let directly = mo.without(&mo.then(mo));
