@@ -21,8 +21,8 @@ returns-in-z c = located _ c.args.word.bytes.now Z (text_from_reads _ _ c.if-wor
 pub returns-in-w : goal.returns-in-w
 returns-in-w c = located _ c.args.word.bytes.now W (text_from_reads _ _ c.if-word-ne1.false (c.in-w.is, tt))
 
-pub returns-in-default : goal.returns-in-default
-returns-in-default c = unlocated _ c.args.word.bytes.now other
+pub returns-in_default : goal.returns-in_default
+returns-in_default c = unlocated _ c.args.word.bytes.now other
   where
     other : (l : Location) → c.args.word.bytes.now ≡ location_name l → ⊥
     other X e = omega (arith, letter c.args.word.bytes.now X e)

@@ -28,8 +28,8 @@ returns-in-2 c = registered c.args.word.now R2 (text_from_reads _ _ (omega arith
 pub returns-in-3 : goal.returns-in-3
 returns-in-3 c = registered c.args.word.now R3 (text_from_reads _ _ (omega arith) (omega arith, (c.in-3.is, tt)))
 
-pub returns-in-default : goal.returns-in-default
-returns-in-default c = unregistered c.args.word.now other
+pub returns-in_default : goal.returns-in_default
+returns-in_default c = unregistered c.args.word.now other
   where
     other : (r : Register) → c.args.word.now ≡ register_name r → ⊥
     other R0 e = omega (arith, digit c.args.word.now R0 e)

@@ -36,8 +36,8 @@ returns-in_err-thread c =
     let h = subst (Passed c.loop-cursor.cursor.at c.next_line.new.cursor.at) c.loop-cursor.invariant.0 c.loop-cursor-test.ensures.cases in
     let same = c.next_line.ensures.same ∙ c.loop-cursor.invariant.0 in
     let read = subst (Answered (Err c.in_err-thread.field-0.0) c.next_line.new.cursor.at) same c.in_err-thread.ensures.value in
-    let room : length (bodies c.loop-cursor.program) < 4 = omega (arith, c.len.ensures.value, c.len.ensures.high-bound, c.if-len-gt-MAX_LINE_FEEDS.false) in
-    let p = err_from_is_err_and c.from-residual.result c.from-residual.ensures.1 in
+    let room : length (bodies c.loop-cursor.program) < 4 = omega (arith, c.len.ensures.value, c.len.ensures.high_bound, c.if-len-gt-MAX_LINE_FEEDS.false) in
+    let p = err_from_is_err_and c.from_residual.result c.from_residual.ensures.1 in
     rw (p.1, p.2)
     record {
       value = sym (reading_stops FifthLine read_thread 4 (bodies c.loop-cursor.program) _ _ _ (line_turn _ _ _ h.0 h.2 h.3) room _ (sym read)) ∙ c.loop-cursor.invariant.1;
@@ -49,7 +49,7 @@ loop-cursor-preserved c =
     let h = subst (Passed c.loop-cursor.cursor.at c.next_line.new.cursor.at) c.loop-cursor.invariant.0 c.loop-cursor-test.ensures.cases in
     let same = c.next_line.ensures.same ∙ c.loop-cursor.invariant.0 in
     let read = subst (Answered (Ok (body c.in_ok-thread.thread)) c.next_line.new.cursor.at) same c.in_ok-thread.ensures.value in
-    let room : length (bodies c.loop-cursor.program) < 4 = omega (arith, c.len.ensures.value, c.len.ensures.high-bound, c.if-len-gt-MAX_LINE_FEEDS.false) in
+    let room : length (bodies c.loop-cursor.program) < 4 = omega (arith, c.len.ensures.value, c.len.ensures.high_bound, c.if-len-gt-MAX_LINE_FEEDS.false) in
     let stop : c.thread.new.cursor.at ≡ line_end text.now c.next_line.new.cursor.at =
     subst (λ (t : Bor (List ℕ)). c.thread.new.cursor.at ≡ line_end t.now c.next_line.new.cursor.at) same (c.in_ok-thread.ensures.after refl) in
     let grown : bodies c.push.new.self ≡ bodies c.loop-cursor.program ++ (body c.in_ok-thread.thread ∷ []) =

@@ -10,7 +10,7 @@ use Rattle.reader.proofs.threads.program.Goals as goal
 
 pub returns-in_err-first : goal.returns-in_err-first
 returns-in_err-first c =
-    let p = err_from_is_err_and c.from-residual.result c.from-residual.ensures.1 in
+    let p = err_from_is_err_and c.from_residual.result c.from_residual.ensures.1 in
     rw (p.1, p.2) record { value = sym (program_stops c.args.cursor.now.text.now c.args.cursor.now.at c.requires _ (sym c.in_err-first.ensures.value)) }
 
 pub lines_after-requires : goal.lines_after-requires

@@ -37,8 +37,8 @@ returns-in_err-statement c =
     let h = subst (Passed c.loop-cursor.cursor.at c.skip.new.self.at) c.loop-cursor.invariant.0 c.loop-cursor-test.ensures.cases in
     let same = c.skip.ensures.same ∙ c.loop-cursor.invariant.0 in
     let read = subst (Answered (Err c.in_err-statement.field-0.0) c.skip.new.self.at) same c.in_err-statement.ensures.value in
-    let room : length (body c.loop-cursor.thread) < 8 = omega (arith, c.len.ensures.value, c.len.ensures.high-bound, c.if-len-gt-MAX_SEMICOLONS.false) in
-    let p = err_from_is_err_and c.from-residual.result c.from-residual.ensures.1 in
+    let room : length (body c.loop-cursor.thread) < 8 = omega (arith, c.len.ensures.value, c.len.ensures.high_bound, c.if-len-gt-MAX_SEMICOLONS.false) in
+    let p = err_from_is_err_and c.from_residual.result c.from_residual.ensures.1 in
     rw (p.1, p.2)
     record {
       same = c.statement.ensures.same ∙ same;
@@ -53,7 +53,7 @@ loop-cursor-preserved c =
     let h = subst (Passed c.loop-cursor.cursor.at c.skip.new.self.at) c.loop-cursor.invariant.0 c.loop-cursor-test.ensures.cases in
     let same = c.skip.ensures.same ∙ c.loop-cursor.invariant.0 in
     let read = subst (Answered (Ok c.in_ok-statement.statement) c.skip.new.self.at) same c.in_ok-statement.ensures.value in
-    let room : length (body c.loop-cursor.thread) < 8 = omega (arith, c.len.ensures.value, c.len.ensures.high-bound, c.if-len-gt-MAX_SEMICOLONS.false) in
+    let room : length (body c.loop-cursor.thread) < 8 = omega (arith, c.len.ensures.value, c.len.ensures.high_bound, c.if-len-gt-MAX_SEMICOLONS.false) in
     let stop : c.statement.new.self.at ≡ statement_end text.now c.skip.new.self.at =
     subst (λ (t : Bor (List ℕ)). c.statement.new.self.at ≡ statement_end t.now c.skip.new.self.at) same (c.in_ok-statement.ensures.after refl) in
     let grown : body c.push.new.self ≡ body c.loop-cursor.thread ++ (c.in_ok-statement.statement ∷ []) =
