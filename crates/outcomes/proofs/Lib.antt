@@ -3,3 +3,4 @@ pub mod Deciding
 pub mod Final
 pub mod Flow
 pub mod Limits
+pub mod Sameness

@@ -1,5 +1,5 @@
 -- Outcomes: r0 to r3 of threads 0 to 3, then x, y, z and w; 20 values in all.
-use Rattle.std.specs.Prelude.{◌≡◌, ℕ, ◌+◌, ◌-◌, ◌*◌, ◌/◌, ◌%◌, ◌<◌, true, cond, List, [], map, length, get_or, Option, ◌≢◌, nat_lt, slice_index, slice_index_or}
+use Rattle.std.specs.Prelude.{◌≡◌, ℕ, ◌+◌, ◌-◌, ◌*◌, ◌/◌, ◌%◌, ◌<◌, true, cond, List, [], map, length, Option, ◌≢◌, nat_lt, slice_index, slice_index_or}
 use Rattle.std.specs.List.{range_with_len}
 use Rattle.lang.specs.declared.syntax.Statement.{Statement}
 use Rattle.events.specs.declared.event.Event.{Event}
@@ -34,4 +34,4 @@ pub record Precedes (xs ys : List ℕ) : Type 0 where
   pub place : ℕ
   pub inside : place < 20
   pub same : (k : ℕ) → k < place → slice_index xs k ≡ slice_index ys k
-  pub lower : get_or xs place 0 < slice_index ys place
+  pub lower : slice_index xs place < slice_index ys place
