@@ -4,8 +4,7 @@ ghost use Rattle.std.specs.List.{range_with_len};
 ghost use Rattle.programs.specs.Parts.{body};
 ghost use Rattle.mapping.specs.declared.placement.Placement.{Placement};
 ghost use Rattle.layers.specs.Exchange.{swapped, exchanged, exchanged_at};
-ghost use Rattle.layers.specs.Exchanged.{exchanged_fenced};
-ghost use Rattle.std.proofs.Common.{rules};
+ghost use Rattle.layers.specs.Exchanged.{exchanged_fenced, exchanged_ended, exchanged_stores};
 
 use mapping::interface::*;
 use mapping::kinds::store_at;
@@ -47,9 +46,9 @@ impl<M: Mapping> Mapping for Exchange<M> {
 
     ghost fenced = { λ m. exchanged_fenced (M.Mapping.meaning m.0) (M.Mapping.fenced m.0) };
 
-    ghost ended = { Prim.search rules };
+    ghost ended = { λ m. exchanged_ended (M.Mapping.meaning m.0) (M.Mapping.ended m.0) };
 
-    ghost stores = { Prim.search rules };
+    ghost stores = { λ m. exchanged_stores (M.Mapping.meaning m.0) (M.Mapping.stores m.0) };
 
     fn place(&self, thread: &Thread, at: usize) -> Placement {
         swap(store_at(thread, at), self.0.place(thread, at))

@@ -4,8 +4,7 @@ ghost use Rattle.std.specs.List.{range_with_len};
 ghost use Rattle.programs.specs.Parts.{body};
 ghost use Rattle.mapping.specs.declared.placement.Placement.{Placement};
 ghost use Rattle.layers.specs.Sparing.{spared, spared_at, settled, kept, still_pending, Spares};
-ghost use Rattle.layers.specs.Spared.{spared_fenced};
-ghost use Rattle.std.proofs.Common.{rules};
+ghost use Rattle.layers.specs.Spared.{spared_fenced, spared_ended, spared_stores};
 
 use lang::syntax::*;
 use mapping::interface::*;
@@ -64,9 +63,9 @@ impl<M: Mapping> Mapping for Sparing<M> {
 
     ghost fenced = { λ m. spared_fenced (M.Mapping.meaning m.0) (M.Mapping.fenced m.0) };
 
-    ghost ended = { Prim.search rules };
+    ghost ended = { λ m. spared_ended (M.Mapping.meaning m.0) (M.Mapping.ended m.0) };
 
-    ghost stores = { Prim.search rules };
+    ghost stores = { λ m. spared_stores (M.Mapping.meaning m.0) (M.Mapping.stores m.0) };
 
     fn place(&self, thread: &Thread, at: usize) -> Placement {
         planned(&self.plan(thread), at)

@@ -2,13 +2,13 @@
 -- between an sc `st` at i and an sc `ld` at j is the fence after i, the store at i itself, or the fence before j.
 use Rattle.std.specs.Prelude.{◌≡◌, ℕ, ◌+◌, ◌*◌, ◌≤◌, Bool, true, false, List, length, Some, None, Option, refl}
 use Rattle.std.proofs.Common.{ap, arith}
+use Rattle.std.proofs.lemmas.Bool.{false≢true}
 use Rattle.std.proofs.lemmas.Option.{slice_get_past}
 use Rattle.std.specs.List.{slice_get}
 use Rattle.lang.specs.declared.syntax.Statement.{Statement}
 use Rattle.lang.specs.declared.syntax.Statement.TheVariants.{Load, Store, Exchange, Add, Fence}
-use Rattle.mapping.specs.declared.placement.Placement.{Placement}
 use Rattle.mapping.specs.Kinds.{holds_at, is_store, is_sc_store, is_sc_load}
-use Rattle.mapping.specs.Rule.{FenceRule, EndsWithThread, fence_before, locked_store, fence_after}
+use Rattle.mapping.specs.Rule.{FenceRule, EndsWithThread, LocksStores, fence_before, locked_store, fence_after}
 use Rattle.mapping.specs.Published.{trailing, locking, leading}
 
 pub holds_past : (test : Statement → Bool) (t : List Statement) (i : ℕ) → length t ≤ i → holds_at test t i ≡ false
@@ -42,3 +42,12 @@ locking_ended t i h = ap (λ (b : Bool). record { before = false; after = false;
 
 pub leading_ended : EndsWithThread leading
 leading_ended t i h = ap (λ (b : Bool). record { before = b; after = false; locked = false }) (holds_past is_sc_load t i h)
+
+pub trailing_stores : LocksStores trailing
+trailing_stores t i h = absurd (false≢true h)
+
+pub locking_stores : LocksStores locking
+locking_stores = sc_store_store
+
+pub leading_stores : LocksStores leading
+leading_stores t i h = absurd (false≢true h)

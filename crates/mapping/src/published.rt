@@ -1,7 +1,6 @@
 //! The three published mappings.
 ghost use Rattle.mapping.specs.Published.{trailing, locking, leading};
-ghost use Rattle.mapping.specs.Laws.{trailing_fenced, trailing_ended, locking_fenced, locking_ended, leading_fenced, leading_ended};
-ghost use Rattle.std.proofs.Common.{rules};
+ghost use Rattle.mapping.specs.Laws.{trailing_fenced, trailing_ended, trailing_stores, locking_fenced, locking_ended, locking_stores, leading_fenced, leading_ended, leading_stores};
 
 use super::interface::Mapping;
 use super::kinds::*;
@@ -23,11 +22,11 @@ pub struct Leading;
 impl Mapping for Trailing {
     ghost meaning = { λ _. trailing };
 
-    ghost fenced = { λ m. trailing_fenced };
+    ghost fenced = { λ _. trailing_fenced };
 
-    ghost ended = { λ m. trailing_ended };
+    ghost ended = { λ _. trailing_ended };
 
-    ghost stores = { Prim.search rules };
+    ghost stores = { λ _. trailing_stores };
 
     fn place(&self, thread: &Thread, at: usize) -> Placement {
         Placement {
@@ -40,11 +39,11 @@ impl Mapping for Trailing {
 impl Mapping for Locked {
     ghost meaning = { λ _. locking };
 
-    ghost fenced = { λ m. locking_fenced };
+    ghost fenced = { λ _. locking_fenced };
 
-    ghost ended = { λ m. locking_ended };
+    ghost ended = { λ _. locking_ended };
 
-    ghost stores = { Prim.search rules };
+    ghost stores = { λ _. locking_stores };
 
     fn place(&self, thread: &Thread, at: usize) -> Placement {
         Placement {
@@ -57,11 +56,11 @@ impl Mapping for Locked {
 impl Mapping for Leading {
     ghost meaning = { λ _. leading };
 
-    ghost fenced = { λ m. leading_fenced };
+    ghost fenced = { λ _. leading_fenced };
 
-    ghost ended = { λ m. leading_ended };
+    ghost ended = { λ _. leading_ended };
 
-    ghost stores = { Prim.search rules };
+    ghost stores = { λ _. leading_stores };
 
     fn place(&self, thread: &Thread, at: usize) -> Placement {
         Placement {

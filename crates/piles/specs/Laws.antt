@@ -1,10 +1,9 @@
 -- A pile keeps the laws: each published mapping has them, and each layer keeps them, whatever is below.
 use Rattle.std.specs.Prelude.{ℕ, List, [], ◌∷◌}
-use Rattle.std.proofs.lemmas.Bool.{false≢true}
 use Rattle.lang.specs.declared.syntax.Statement.{Statement}
 use Rattle.mapping.specs.declared.placement.Placement.{Placement}
 use Rattle.mapping.specs.Rule.{FenceRule, EndsWithThread, LocksStores}
-use Rattle.mapping.specs.Laws.{trailing_fenced, locking_fenced, leading_fenced, trailing_ended, locking_ended, leading_ended, sc_store_store}
+use Rattle.mapping.specs.Laws.{trailing_fenced, locking_fenced, leading_fenced, trailing_ended, locking_ended, leading_ended, trailing_stores, locking_stores, leading_stores}
 use Rattle.layers.specs.Exchanged.{exchanged_fenced, exchanged_ended, exchanged_stores}
 use Rattle.layers.specs.Spared.{spared_fenced, spared_ended, spared_stores}
 use Rattle.piles.specs.declared.pile.Base.{Base}
@@ -19,15 +18,10 @@ pub record Lawful (f : List Statement → ℕ → Placement) : Type 0 where
   pub ended : EndsWithThread f
   pub stores : LocksStores f
 
-base_stores : (b : Base) → LocksStores (base_meaning b)
-base_stores Trailing t i h = absurd (false≢true h)
-base_stores Locked t i h = sc_store_store t i h
-base_stores Leading t i h = absurd (false≢true h)
-
 pub base_lawful : (b : Base) → Lawful (base_meaning b)
-base_lawful Trailing = record { fenced = trailing_fenced; ended = trailing_ended; stores = base_stores Trailing }
-base_lawful Locked = record { fenced = locking_fenced; ended = locking_ended; stores = base_stores Locked }
-base_lawful Leading = record { fenced = leading_fenced; ended = leading_ended; stores = base_stores Leading }
+base_lawful Trailing = record { fenced = trailing_fenced; ended = trailing_ended; stores = trailing_stores }
+base_lawful Locked = record { fenced = locking_fenced; ended = locking_ended; stores = locking_stores }
+base_lawful Leading = record { fenced = leading_fenced; ended = leading_ended; stores = leading_stores }
 
 layered_lawful : (l : Layer) (f : List Statement → ℕ → Placement) → Lawful f → Lawful (layered l f)
 layered_lawful Sparing f h =

@@ -1,10 +1,10 @@
 -- Why the fence rule holds: the sc `st` at i precedes the sc `ld` at j, so a fence stands before j.
 use Rattle.std.specs.Prelude.{◌≡◌, ℕ, zero, suc, ◌+◌, ◌*◌, ◌<◌, Bool, true, false, ◌&&◌, List, refl}
 use Rattle.std.proofs.Common.{ap, ◌∙◌, inl, inr, add-one, arith}
-use Rattle.std.proofs.lemmas.Bool.{and_from, or_from, or_left, or_right, cases_lt}
+use Rattle.std.proofs.lemmas.Bool.{false≢true, and_from, or_from, or_left, or_right, cases_lt}
 use Rattle.lang.specs.declared.syntax.Statement.{Statement}
 use Rattle.mapping.specs.Kinds.{is_store, is_sc_load, holds_at}
-use Rattle.mapping.specs.Rule.{FenceRule, EndsWithThread, fence_before}
+use Rattle.mapping.specs.Rule.{FenceRule, EndsWithThread, LocksStores, fence_before}
 use Rattle.mapping.specs.Laws.{holds_past, sc_store_store}
 use Rattle.watchful.specs.Meaning.{preceded, watchful}
 
@@ -24,3 +24,6 @@ watchful_fenced t i j l s r =
 
 pub watchful_ended : EndsWithThread watchful
 watchful_ended t i h = ap (λ (b : Bool). record { before = b && preceded t i; after = false; locked = false }) (holds_past is_sc_load t i h)
+
+pub watchful_stores : LocksStores watchful
+watchful_stores t i h = absurd (false≢true h)

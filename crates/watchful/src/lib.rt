@@ -1,14 +1,14 @@
 //! A mapping of one's own, as an example of how to write one: a fence before each sc `ld` that an `st` of its thread precedes.
 //!
-//! What is needed: the meaning as a definition in specs/, the function that answers it, and in proofs/ the laws: that the fence rule
-//! holds, that nothing is placed past the thread's end, and that nothing but an `st` is locked. Both layers can then be piled on it.
+//! What is needed: the meaning as a definition in specs/, the function that answers it, and the laws, with lemmas in specs/: that the
+//! fence rule holds, that nothing is placed past the thread's end, and that nothing but an `st` is locked. Both layers can then be
+//! piled on it.
 #![tactic(auto)]
 
 ghost use Rattle.std.specs.Prelude.{◌≡◌};
 ghost use Rattle.programs.specs.Parts.{body};
 ghost use Rattle.watchful.specs.Meaning.{watchful, preceded};
-ghost use Rattle.watchful.specs.Law.{watchful_fenced, watchful_ended};
-ghost use Rattle.std.proofs.Common.{rules};
+ghost use Rattle.watchful.specs.Law.{watchful_fenced, watchful_ended, watchful_stores};
 
 use mapping::interface::Mapping;
 use mapping::kinds::*;
@@ -34,11 +34,11 @@ fn store_before(thread: &Thread, at: usize) -> bool
 impl Mapping for Watchful {
     ghost meaning = { λ _. watchful };
 
-    ghost fenced = { λ m. watchful_fenced };
+    ghost fenced = { λ _. watchful_fenced };
 
-    ghost ended = { λ m. watchful_ended };
+    ghost ended = { λ _. watchful_ended };
 
-    ghost stores = { Prim.search rules };
+    ghost stores = { λ _. watchful_stores };
 
     fn place(&self, thread: &Thread, at: usize) -> Placement {
         Placement {

@@ -1,6 +1,5 @@
-use Rattle.std.proofs.Common.{◌≡◌, ℕ, ◌+◌, ◌<◌, List, [], map, length, take, sym, refl, ap, ◌∙◌, subst, arith}
+use Rattle.std.proofs.Common.{◌≡◌, ◌+◌, ◌<◌, List, [], map, length, take, sym, refl, ap, ◌∙◌, subst, arith}
 use Rattle.std.proofs.lemmas.List.{length-set, take_all}
-use Rattle.lang.specs.declared.syntax.Statement.{Statement}
 use Rattle.programs.specs.Parts.{body, bodies}
 use Rattle.compiler.specs.declared.code.ThreadCode.{ThreadCode}
 use Rattle.compiler.specs.declared.code.Instruction.{Instruction}
@@ -18,7 +17,7 @@ loop-number-preserved g c =
     let n = c.loop-number.number in
     let f = compiled_thread (g.M.Mapping.meaning c.args.mapping.now) in
     let inside : n < length ts = omega (arith, c.loop-number-test.true, c.len-number-end.ensures.value) in
-    let room : n < length c.loop-number.threads = omega (arith, c.loop-number.invariant.0, c.loop-number-test.true, c.len-number-end.ensures.high-bound) in
+    let room : n < length c.loop-number.threads = omega (arith, c.loop-number.invariant.0, c.loop-number-test.true, c.len-number-end.ensures.high_bound) in
     elim c.match-thread.branch [
       | in-Some w ↦
           subst (λ (cs : List ThreadCode). (length cs ≡ 4) × (map instructions_of (take (n + 1) cs) ≡ map f (take (n + 1) ts))) (sym w.threads-is) (
@@ -33,7 +32,7 @@ returns g c =
     let ts = bodies c.args.program.now in
     let f = compiled_thread (g.M.Mapping.meaning c.args.mapping.now) in
     let all : length ts ≡ c.loop-number.number =
-    omega (arith, c.loop-number-test.false, c.loop-number.auto.number_end, c.len-number-end.ensures.value) in
+    omega (arith, c.loop-number-test.false, c.loop-number.auto.number-end, c.len-number-end.ensures.value) in
     let value : map instructions_of (take (length ts) c.loop-number.threads) ≡ map f ts =
     ap (λ n. map instructions_of (take n c.loop-number.threads)) all
     ∙ c.loop-number.invariant.1

@@ -14,14 +14,14 @@ pub append_statement-requires : goal.append_statement-requires
 append_statement-requires g c =
     let t = body c.args.thread.now in
     let f = g.M.Mapping.meaning c.args.mapping.now t in
-    omega (arith, ap length c.loop-place.invariant, length_compiled f t c.loop-place.place, c.loop-place-test.true, c.len-place-end.ensures.high-bound)
+    omega (arith, ap length c.loop-place.invariant, length_compiled f t c.loop-place.place, c.loop-place-test.true, c.len-place-end.ensures.high_bound)
 
 pub loop-place-preserved : goal.loop-place-preserved
 loop-place-preserved g c =
     let t = body c.args.thread.now in
     let f : ℕ → Placement = g.M.Mapping.meaning c.args.mapping.now t in
     let at = c.loop-place.place in
-    let inside : at < 8 = omega (arith, c.loop-place-test.true, c.len-place-end.ensures.high-bound) in
+    let inside : at < 8 = omega (arith, c.loop-place-test.true, c.len-place-end.ensures.high_bound) in
     elim c.match-statement.branch [
       | in-Some w ↦
           ap instructions_of w.code-is

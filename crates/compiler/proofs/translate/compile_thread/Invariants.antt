@@ -1,4 +1,4 @@
-use Rattle.std.proofs.Common.{◌≡◌, ◌*◌, ◌≤◌, length}
+use Rattle.std.proofs.Common.{◌≡◌}
 use Rattle.programs.specs.Parts.{body}
 use Rattle.compiler.specs.Compiled.{instructions_of, compiled}
 use Rattle.compiler.proofs.translate.compile_thread.Given as goal

@@ -1,4 +1,4 @@
-use Rattle.std.proofs.Common.{◌≡◌, ℕ, ◌*◌, Bool, get_or, Option, sym, refl, ap, ◌∙◌, arith}
+use Rattle.std.proofs.Common.{◌≡◌, get_or, Option, sym, refl, ap, ◌∙◌, arith}
 use Rattle.std.proofs.lemmas.List.FromFn.{fill_by_all}
 use Rattle.std.proofs.lemmas.List.{length-set}
 use Rattle.std.specs.List.{slice_get}
@@ -6,7 +6,7 @@ use Rattle.lang.specs.declared.syntax.Statement.{Statement}
 use Rattle.programs.specs.Parts.{body}
 use Rattle.mapping.specs.declared.placement.Placement.{Placement}
 use Rattle.mapping.specs.Rule.{nothing}
-use Rattle.layers.specs.Sparing.{pending, kept, still_pending, spared_at}
+use Rattle.layers.specs.Sparing.{kept, still_pending, spared_at}
 use Rattle.mapping.proofs.Plans.{plan_read}
 use Rattle.layers.proofs.Filling.{filled_more}
 use Rattle.layers.specs.Spared.{spared_spares}

@@ -1,4 +1,4 @@
-use Rattle.std.proofs.Common.{◌≡◌, ℕ, List, length, Some, None, Option, ap, ◌∙◌, arith}
+use Rattle.std.proofs.Common.{ℕ, List, length, Some, None, Option, ap, ◌∙◌, arith}
 use Rattle.std.specs.List.{slice_get}
 use Rattle.programs.specs.Parts.{bodies}
 use Rattle.programs.proofs.Used.{nth_used_map, nth_unused_map}
@@ -17,4 +17,4 @@ returns-then-thread-len c =
 pub returns : goal.returns
 returns c =
     c.instruction.ensures
-    ∙ ap (found c.args.at) (nth_used_map instructions_of c.args.self.now.threads (length (bodies c.args.self.now.source)) c.args.thread _ (omega (arith, c.len.ensures.value, c.len.ensures.high-bound)) (omega (arith, c.len.ensures.value)))
+    ∙ ap (found c.args.at) (nth_used_map instructions_of c.args.self.now.threads (length (bodies c.args.self.now.source)) c.args.thread _ (omega (arith, c.len.ensures.value, c.len.ensures.high_bound)) (omega (arith, c.len.ensures.value)))

@@ -1,4 +1,4 @@
-use Rattle.std.proofs.Common.{◌≡◌, ℕ, List, length, Some, None, Option, ap, ◌∙◌, arith}
+use Rattle.std.proofs.Common.{ℕ, List, length, Some, None, Option, ap, ◌∙◌, arith}
 use Rattle.programs.specs.Parts.{bodies}
 use Rattle.programs.proofs.Used.{nth_used_map, nth_unused_map}
 use Rattle.compiler.specs.declared.code.Instruction.{Instruction}
@@ -13,7 +13,7 @@ returns-then-thread-len c =
     record {
       value =
           c.len-then-thread-len.ensures.value
-          ∙ ap counted (nth_used_map instructions_of c.args.self.now.threads (length (bodies c.args.self.now.source)) c.args.thread _ (omega (arith, c.len.ensures.value, c.len.ensures.high-bound)) (omega (arith, c.len.ensures.value)));
+          ∙ ap counted (nth_used_map instructions_of c.args.self.now.threads (length (bodies c.args.self.now.source)) c.args.thread _ (omega (arith, c.len.ensures.value, c.len.ensures.high_bound)) (omega (arith, c.len.ensures.value)));
       bound = c.len-then-thread-len.ensures.bound;
     }
 

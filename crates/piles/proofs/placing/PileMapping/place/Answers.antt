@@ -1,4 +1,4 @@
-use Rattle.std.proofs.Common.{◌≡◌, List, get_or, vec_items, ap, ◌∙◌, arith}
+use Rattle.std.proofs.Common.{List, get_or, vec_items, ap, ◌∙◌, arith}
 use Rattle.std.proofs.lemmas.List.{length-take}
 use Rattle.programs.specs.Parts.{body}
 use Rattle.mapping.specs.declared.placement.Placement.{Placement}
