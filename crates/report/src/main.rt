@@ -28,7 +28,7 @@ fn asks_for_help(rt: &HostRuntime) -> anyhow::Result<bool> {
     match words.next() {
         None => Ok(false),
         Some(word) => {
-            if word == "--help" {
+            if word.as_str() == "--help" {
                 Ok(true)
             } else {
                 Err(anyhow!("no word is taken but --help; the program comes on standard input"))
