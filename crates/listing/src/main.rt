@@ -57,7 +57,7 @@ fn asked(rt: &HostRuntime) -> anyhow::Result<Request> {
         layers: Vec::new(rt.alloc()),
     };
     for (place, word) in env::args(rt)?.skip(1).enumerate() {
-        if word == "--help" {
+        if word.as_str() == "--help" {
             return Ok(Request::Help);
         }
         take_word(&mut pile, place == 0, word.as_str())?;
