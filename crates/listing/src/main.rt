@@ -9,6 +9,7 @@ use mapping::interface::*;
 use mapping::placement::Placement;
 use piles::pile::*;
 use programs::threads::*;
+use std::process::ExitCode;
 use std::{env, io};
 
 const HELP: &str = "\
@@ -155,6 +156,9 @@ fn run(rt: &HostRuntime) -> anyhow::Result<()> {
     Ok(())
 }
 
-fn main(rt: HostRuntime) -> anyhow::Result<()> {
-    console::ended(&rt, "listing", run(&rt))
+fn main(rt: HostRuntime) -> ExitCode {
+    match console::ended(&rt, "listing", run(&rt)) {
+        Ok(()) => ExitCode::SUCCESS,
+        Err(_) => ExitCode::FAILURE,
+    }
 }

@@ -18,10 +18,15 @@ pub record Lawful (f : List Statement → ℕ → Placement) : Type 0 where
   pub ended : EndsWithThread f
   pub stores : LocksStores f
 
+base_stores : (b : Base) → LocksStores (base_meaning b)
+base_stores Trailing = trailing_stores
+base_stores Locked = locking_stores
+base_stores Leading = leading_stores
+
 pub base_lawful : (b : Base) → Lawful (base_meaning b)
-base_lawful Trailing = record { fenced = trailing_fenced; ended = trailing_ended; stores = trailing_stores }
-base_lawful Locked = record { fenced = locking_fenced; ended = locking_ended; stores = locking_stores }
-base_lawful Leading = record { fenced = leading_fenced; ended = leading_ended; stores = leading_stores }
+base_lawful Trailing = record { fenced = trailing_fenced; ended = trailing_ended; stores = base_stores Trailing }
+base_lawful Locked = record { fenced = locking_fenced; ended = locking_ended; stores = base_stores Locked }
+base_lawful Leading = record { fenced = leading_fenced; ended = leading_ended; stores = base_stores Leading }
 
 layered_lawful : (l : Layer) (f : List Statement → ℕ → Placement) → Lawful f → Lawful (layered l f)
 layered_lawful Sparing f h =

@@ -4,6 +4,7 @@
 use anyhow::anyhow;
 use lang::syntax::Statement;
 use programs::threads::Program;
+use std::process::ExitCode;
 use std::{env, io};
 
 const HELP: &str = "\
@@ -79,6 +80,9 @@ fn run(rt: &HostRuntime) -> anyhow::Result<()> {
     Ok(())
 }
 
-fn main(rt: HostRuntime) -> anyhow::Result<()> {
-    console::ended(&rt, "report", run(&rt))
+fn main(rt: HostRuntime) -> ExitCode {
+    match console::ended(&rt, "report", run(&rt)) {
+        Ok(()) => ExitCode::SUCCESS,
+        Err(_) => ExitCode::FAILURE,
+    }
 }
