@@ -3,8 +3,9 @@
 
 usage: python3 tools/respell.py [--list]     at the top, right after port.py; --list only prints what would be renamed
 
-Goals that Rattle names (`loop-x-preserved`, `returns-in_ok-f`) and names of the library keep their dashes. A name that would fall
-together with another one is reported and left.
+Names that `let` binds are brought along, and so are names in backticks in docs/ and the README. Goals that Rattle names
+(`loop-x-preserved`, `returns-in_ok-f`) and names of the library keep their dashes. A name that would fall together with one that
+stands, or with one that was respelled before it, is reported and left.
 """
 import glob
 import re

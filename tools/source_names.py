@@ -1,5 +1,7 @@
 #!/usr/bin/env python3
-"""Gives names of the code their own spelling in the answers: `if-not-is-ascii-digit` is `if-not-is_ascii_digit` today.
+"""Gives names of the code their own spelling in answers and invariants: `if-not-is-ascii-digit` is `if-not-is_ascii_digit` today.
+
+It also turns the first words of goals that Rattle spells in snake case today, as `overflow-add-x` and `returns-in-ok-x`.
 
 usage: python3 tools/source_names.py      at the top, after tools/respell.py
 """
