@@ -1,7 +1,6 @@
 //! The sets and the relations of RC11 that are found event by event and pair by pair.
 #![tactic(auto)]
 
-pub mod collect;
 mod facts;
-pub mod kinds;
-mod tests;
+pub mod pairs;
+pub mod sets;

@@ -3,11 +3,14 @@
 -- points of their statements. The fence rule has a flush at the store's point or between the two points, and a flushing
 -- instruction stands there. At the store's point it is the store's own; past it, it stands between the two in the code as well,
 -- since the code follows the order of the points.
-use Rattle.std.proofs.Common.{ℕ, ◌*◌, List, length, sym, ap, subst, inl, inr, arith}
+use Rattle.std.proofs.Common.{◌≡◌, ℕ, ◌*◌, List, map, length, Some, sym, ap, subst, inl, inr, arith}
 use Rattle.std.proofs.lemmas.Bool.{cases_eq}
+use Rattle.std.proofs.lemmas.Option.{slice_get-map}
+use Rattle.std.specs.List.{slice_get}
 use Rattle.lang.specs.declared.syntax.Statement.{Statement}
 use Rattle.mapping.specs.declared.placement.Placement.{Placement}
 use Rattle.mapping.specs.Rule.{FenceRule}
+use Rattle.compiler.specs.declared.code.Instruction.{Instruction}
 use Rattle.compiler.specs.Compiled.{compiled_thread}
 use Rattle.compiler.specs.Faithful.{FlushesBetween, Faithful}
 use Rattle.compiler.proofs.Slots.{filled, position, position_rises, slot_found, slot_behind}
@@ -36,3 +39,7 @@ code_faithful f rule t = record {
   holds = compiled_held t (f t);
   flushed = subst (FlushesBetween t) (sym (compiled_points (f t) t (length t))) (points_flushed f rule t);
 }
+
+-- What stands at a place of the codes is the code of the thread at that place.
+pub code_of : (f : List Statement → List Instruction) (ts : List (List Statement)) (k : ℕ) (t : List Statement) (c : List Instruction) → slice_get ts k ≡ Some t → slice_get (map f ts) k ≡ Some c → f t ≡ c
+code_of f ts k t c a b = let code = slice_get-map f ts k in cc

@@ -9,7 +9,7 @@ use Rattle.std.specs.List.{slice_get}
 use Rattle.lang.specs.declared.syntax.Statement.{Statement}
 use Rattle.lang.specs.declared.syntax.Statement.TheVariants.{Load as Ld, Store as St, Exchange as Xchg, Add as Sum, Fence as Bar}
 use Rattle.mapping.specs.declared.placement.Placement.{Placement}
-use Rattle.mapping.specs.Kinds.{is_sc}
+use Rattle.lang.specs.Strengths.{is_sc}
 use Rattle.compiler.specs.declared.code.Instruction.{Instruction}
 use Rattle.compiler.specs.declared.code.Instruction.TheVariants.{Fence}
 use Rattle.compiler.specs.Compiled.{own, fence, at_statement, at_place, compiled}

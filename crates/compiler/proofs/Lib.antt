@@ -1,5 +1,4 @@
 pub mod Appending
-pub mod Collecting
 pub mod Faithfulness
 pub mod Held
 pub mod Positions

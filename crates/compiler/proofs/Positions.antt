@@ -10,7 +10,8 @@ use Rattle.std.proofs.lemmas.Bool.{both_ways, cases_cond, cond-true, and_from, o
 use Rattle.lang.specs.declared.syntax.Statement.{Statement}
 use Rattle.lang.specs.declared.syntax.Statement.TheVariants.{Load as Ld, Store as St, Exchange as Xchg, Add as Sum, Fence as Bar}
 use Rattle.mapping.specs.declared.placement.Placement.{Placement}
-use Rattle.mapping.specs.Kinds.{is_sc, is_store, is_strong, holds_at}
+use Rattle.lang.specs.Strengths.{is_sc}
+use Rattle.mapping.specs.Kinds.{is_store, is_strong, holds_at}
 use Rattle.mapping.specs.Rule.{Flush, fence_before, locked_store, strong, fence_after}
 use Rattle.compiler.specs.declared.code.Instruction.{Instruction}
 use Rattle.compiler.specs.declared.code.Instruction.TheVariants.{LockedStore, Exchange, Add, Fence, PlacedFence}

@@ -1,15 +1,15 @@
 -- What each statement is compiled to, and the code of a thread.
-use Rattle.std.specs.Prelude.{ℕ, zero, suc, Bool, cond, List, [], ◌++◌, map, length, take, Some, None, Option}
+use Rattle.std.specs.Prelude.{ℕ, zero, suc, Bool, cond, List, [], ◌++◌, map, length, Some, None, Option}
 use Rattle.std.specs.Option.{option_to_list}
 use Rattle.std.specs.List.{slice_get}
 use Rattle.lang.specs.declared.syntax.Statement.{Statement}
 use Rattle.lang.specs.declared.syntax.Statement.TheVariants.{Load as Ld, Store as St, Exchange as Xchg, Add as Sum, Fence as Bar}
-use Rattle.programs.specs.Parts.{bodies}
+use Rattle.programs.specs.declared.bounded.Bounded.{Bounded}
+use Rattle.programs.specs.Entries.{entries}
 use Rattle.mapping.specs.declared.placement.Placement.{Placement}
-use Rattle.mapping.specs.Kinds.{is_sc}
+use Rattle.lang.specs.Strengths.{is_sc}
 use Rattle.compiler.specs.declared.code.Instruction.{Instruction}
 use Rattle.compiler.specs.declared.code.Instruction.TheVariants.{Load, Store, LockedStore, Exchange, Add, Fence, PlacedFence}
-use Rattle.compiler.specs.declared.code.ThreadCode.{ThreadCode}
 use Rattle.compiler.specs.declared.code.Code.{Code}
 
 -- The instruction of a statement at a place; a fence weaker than sc has none.
@@ -39,12 +39,16 @@ compiled f t (suc n) = compiled f t n ++ at_place f t n
 abbrev pub compiled_thread : (List Statement → ℕ → Placement) → List Statement → List Instruction
 compiled_thread f t = compiled (f t) t (length t)
 
+-- The code of a thread: at most 24 instructions.
+abbrev pub ThreadCode : Type 0
+ThreadCode = Bounded Instruction 0 24
+
 -- What a host sees of a thread's code and of a program's.
 abbrev pub instructions_of : ThreadCode → List Instruction
-instructions_of c = take c.len c.instructions
+instructions_of c = entries c
 
 abbrev pub threads_of : Code → List (List Instruction)
-threads_of c = map instructions_of (take (length (bodies c.source)) c.threads)
+threads_of c = map instructions_of (entries c.threads)
 
 -- The instruction at an index of a thread, and how many a thread has; an absent thread has none.
 abbrev pub instruction_at : List (List Instruction) → ℕ → ℕ → Option Instruction

@@ -7,7 +7,8 @@ use Rattle.lang.specs.declared.syntax.Register.{Register}
 use Rattle.lang.specs.declared.syntax.Operand.{Operand}
 use Rattle.lang.specs.declared.syntax.Statement.{Statement}
 use Rattle.lang.specs.declared.syntax.Statement.TheVariants.{Load as Ld, Store as St, Exchange as Xchg, Add as Sum, Fence as Bar}
-use Rattle.mapping.specs.Kinds.{is_sc, is_sc_store, is_sc_load, holds_at}
+use Rattle.lang.specs.Strengths.{is_sc}
+use Rattle.mapping.specs.Kinds.{is_sc_store, is_sc_load, holds_at}
 use Rattle.compiler.specs.declared.code.Instruction.{Instruction}
 use Rattle.compiler.specs.declared.code.Instruction.TheVariants.{Load, Store, LockedStore, Exchange, Add, Fence, PlacedFence}
 

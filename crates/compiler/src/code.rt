@@ -1,7 +1,6 @@
 //! Compiled code: the instructions of each thread, with the program that they came from.
-ghost use Rattle.std.specs.Prelude.{◌≡◌, ◌≤◌, length};
-
 use lang::syntax::*;
+use programs::bounded::Bounded;
 use programs::threads::*;
 
 /// The most instructions that a thread has: a fence before, one of its own and a fence after each statement.
@@ -50,19 +49,12 @@ pub enum Instruction {
     PlacedFence,
 }
 
-/// The instructions of a thread; the entries from `len` on are unused.
-#[derive(Clone, Copy)]
-pub struct ThreadCode {
-    pub(crate) instructions: [Instruction; MAX_INSTRUCTIONS],
-    pub(crate) len: usize,
-    ghost few: { len ≤ 24 },
-    ghost room: { length instructions ≡ 24 },
-}
+/// The instructions of a thread.
+pub type ThreadCode = Bounded<Instruction, 0, MAX_INSTRUCTIONS>;
 
-/// A program with the instructions of each of its threads; the entries past its threads are unused.
+/// A program with the instructions of each of its threads.
 #[derive(Clone, Copy)]
 pub struct Code {
     pub(crate) source: Program,
-    pub(crate) threads: [ThreadCode; MAX_THREADS],
-    ghost room: { length threads ≡ 4 },
+    pub(crate) threads: Bounded<ThreadCode, 0, MAX_THREADS>,
 }

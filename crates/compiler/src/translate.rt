@@ -8,8 +8,9 @@ ghost use Rattle.compiler.specs.Faithful.{Faithful};
 
 use super::code::*;
 use lang::syntax::*;
-use mapping::interface::Mapping;
+use mapping::interface::*;
 use mapping::placement::*;
+use programs::bounded::Bounded;
 use programs::threads::*;
 
 /// The instruction of a statement; a fence weaker than sc has none.
@@ -75,11 +76,7 @@ fn own_instruction(place: usize, statement: Statement, locked: bool) -> Option<I
 fn placed_fence(placed: bool) -> Option<Instruction>
     ensures { result ≡ fence placed }
 {
-    if placed {
-        Some(Instruction::PlacedFence)
-    } else {
-        None
-    }
+    placed.then_some(Instruction::PlacedFence)
 }
 
 /// Adds an instruction, if there is one, to code with room for it.
@@ -108,12 +105,9 @@ fn compile_thread<M: Mapping>(mapping: &M, thread: &Thread) -> ThreadCode
     ensures { instructions_of result ≡ compiled_thread (M.Mapping.meaning mapping.now) (body thread.now) }
 {
     let plan = mapping.plan(thread);
-    let mut code = ThreadCode::new();
-    for place in 0..thread.len() {
-        match thread.statement(place) {
-            Some(statement) => append_statement(&mut code, place, plan[place], statement),
-            None => {}
-        }
+    let mut code = ThreadCode::empty(Instruction::PlacedFence);
+    for (place, statement) in thread.as_slice().iter().enumerate() {
+        append_statement(&mut code, place, planned(&plan, place), *statement);
     }
     code
 }
@@ -124,12 +118,9 @@ pub fn compile<M: Mapping>(mapping: &M, program: &Program) -> Code
     ensures value { threads_of result ≡ map (compiled_thread (M.Mapping.meaning mapping.now)) (bodies program.now) }
     ensures faithful { (k : ℕ) (t : List Statement) (c : List Instruction) → slice_get (bodies program.now) k ≡ Some t → slice_get (threads_of result) k ≡ Some c → Faithful t c }
 {
-    let mut threads = [ThreadCode::new(); MAX_THREADS];
-    for number in 0..program.len() {
-        match program.thread(number) {
-            Some(thread) => threads[number] = compile_thread(mapping, &thread),
-            None => {}
-        }
+    let mut threads = Bounded::empty(ThreadCode::empty(Instruction::PlacedFence));
+    for thread in program.as_slice() {
+        threads.push(compile_thread(mapping, thread)).unwrap();
     }
     Code {
         source: *program,

@@ -50,5 +50,5 @@ bounded g =
       reads = inside (λ o. is_some (said read_by None o)) refl g.events;
       writes = inside (λ o. is_some (said written_by None o)) refl g.events;
       fence = inside (said is_fence false) refl g.events;
-      source = λ r t. source_below g.events r (get_or g.sources r None) t (g.rf r (reader_below g.events r t));
+      source = λ r t. source_below g.events r (get_or g.sources r None) t (g.formed.rf r (reader_below g.events r t));
     }

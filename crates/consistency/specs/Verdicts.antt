@@ -1,9 +1,7 @@
--- The verdicts by number.
-use Rattle.std.specs.Prelude.{ℕ}
+-- The verdicts by number: 0 for a graph that keeps all rules, else the number of the first that it breaks.
+use Rattle.std.specs.Prelude.{ℕ, Result, Ok, Err}
 use Rattle.consistency.specs.declared.verdict.Rule.{Rule}
 use Rattle.consistency.specs.declared.verdict.Rule.TheVariants.{NoThinAir, Coherence, Atomicity, ScOrder}
-use Rattle.consistency.specs.declared.verdict.Verdict.{Verdict}
-use Rattle.consistency.specs.declared.verdict.Verdict.TheVariants.{Consistent, Breaks}
 
 abbrev pub rule_number : Rule → ℕ
 rule_number NoThinAir = 1
@@ -11,6 +9,6 @@ rule_number Coherence = 2
 rule_number Atomicity = 3
 rule_number ScOrder = 4
 
-abbrev pub verdict_number : Verdict → ℕ
-verdict_number Consistent = 0
-verdict_number (Breaks rule) = rule_number rule
+abbrev pub verdict_number : Result (Unit {0}) Rule → ℕ
+verdict_number (Ok _) = 0
+verdict_number (Err rule) = rule_number rule

@@ -1,38 +1,35 @@
 //! What can be said of a graph.
 ghost use Rattle.std.specs.Prelude.{◌≡◌};
-ghost use Rattle.consistency.specs.Verdicts.{verdict_number};
+ghost use Rattle.consistency.specs.Verdicts.{rule_number, verdict_number};
 
-/// The rules that make a graph consistent.
+/// The rules that make a graph consistent, by their numbers.
 #[derive(Clone, Copy, PartialEq, Eq)]
 pub enum Rule {
     /// sb and rf together have no cycle.
-    NoThinAir,
+    NoThinAir = 1,
     /// No event a has a hb a, or a hb b with b eco a.
-    Coherence,
+    Coherence = 2,
     /// An update stands in mo directly after its source.
-    Atomicity,
+    Atomicity = 3,
     /// psc has no cycle.
-    ScOrder,
+    ScOrder = 4,
 }
 
-/// If a graph is consistent, or else the first rule that it breaks.
-#[derive(Clone, Copy, PartialEq, Eq)]
-pub enum Verdict {
-    Consistent,
-    Breaks(Rule),
-}
+/// That a graph is consistent, or else the first rule that it breaks.
+pub type Verdict = Result<(), Rule>;
 
-impl Verdict {
-    /// 0 for consistent, else the number of the broken rule, 1 to 4.
+impl Rule {
+    /// Its number, 1 to 4.
     pub fn number(self) -> u8
-        ensures { result ≡ verdict_number self }
+        ensures { result ≡ rule_number self }
     {
-        match self {
-            Verdict::Consistent => 0,
-            Verdict::Breaks(Rule::NoThinAir) => 1,
-            Verdict::Breaks(Rule::Coherence) => 2,
-            Verdict::Breaks(Rule::Atomicity) => 3,
-            Verdict::Breaks(Rule::ScOrder) => 4,
-        }
+        self as u8
     }
+}
+
+/// 0 for consistent, else the number of the broken rule.
+pub fn number(verdict: Verdict) -> u8
+    ensures { result ≡ verdict_number verdict }
+{
+    verdict.err().map_or(0, Rule::number)
 }

@@ -15,11 +15,11 @@ pub fn input(rt: &HostRuntime) -> io::Result<Vec<u8>> {
 }
 
 /// Hands a program's result on; an error is printed on standard error behind the program's name.
-pub fn ended(rt: &HostRuntime, program: &str, res: anyhow::Result<()>) -> anyhow::Result<()>
-    ensures { result ≡ res }
+pub fn ended(rt: &HostRuntime, program: &str, outcome: anyhow::Result<()>) -> anyhow::Result<()>
+    ensures { result ≡ outcome }
 {
-    if let Err(error) = &res {
+    if let Err(error) = &outcome {
         let _ = eprintln!(rt; "{program}: {error}");
     }
-    res
+    outcome
 }

@@ -1,4 +1,3 @@
 pub mod Ahead
 pub mod Digits
-pub mod Letters
 pub mod Looking

@@ -1,8 +1,9 @@
 //! How the cursor goes over spaces and words.
-ghost use Rattle.std.specs.Prelude.{◌≡◌, ◌+◌, ◌<◌, ◌≤◌, [], ◌∷◌, length, drop, Ok, Err, MatchBool, ◌≢◌, nat_le, slice_index};
+ghost use Rattle.std.specs.Prelude.{◌≡◌, ◌+◌, ◌<◌, ◌≤◌, [], ◌∷◌, length, drop, Ok, Err, MatchBool, ◌≢◌, nat_le, slice_index, ◌==◌};
+ghost use Rattle.std.specs.List.{before_first, prefix_len};
 ghost use Rattle.faults.specs.declared.Fault.TheVariants.{WrongWord};
-ghost use Rattle.grammar.specs.Pieces.{piece};
-ghost use Rattle.cursor.specs.Sight.{before, ends_word, words_left, statement_end};
+ghost use Rattle.grammar.specs.Pieces.{piece, SPACE};
+ghost use Rattle.cursor.specs.Sight.{ends_word, words_left, statement_end, Advances};
 
 use super::text::*;
 use faults::Fault;
@@ -11,19 +12,22 @@ use faults::Fault;
 fn ends_word(byte: u8) -> bool
     ensures { result ≡ ends_word byte }
 {
-    byte == b' ' || byte == b';' || byte == b'\n'
+    matches!(byte, b' ' | b';' | b'\n')
 }
 
-/// Where the word that begins at an offset ends.
-fn word_end(text: &[u8], offset: usize) -> usize
-    requires { offset ≤ length text.now }
-    ensures { (result ≡ offset + length (before ends_word (drop offset text.now))) × (result ≤ length text.now) }
+/// How many spaces stand here.
+fn spaces(rest: &[u8]) -> usize
+    ensures value { result ≡ prefix_len (λ b. b == SPACE) rest.now }
+    ensures within { result ≤ length rest.now }
 {
-    let mut at = offset;
-    while at < text.len() && !ends_word(text[at]) {
-        at += 1;
-    }
-    at
+    rest.iter().take_while(|byte| **byte == b' ').count()
+}
+
+/// How many bytes a word has that begins here.
+fn word_length(rest: &[u8]) -> usize
+    ensures { result ≡ length (before_first ends_word rest.now) }
+{
+    rest.iter().take_while(|byte| !ends_word(**byte)).count()
 }
 
 impl<'a> Cursor<'a> {
@@ -34,37 +38,39 @@ impl<'a> Cursor<'a> {
         Cursor { text, at: 0 }
     }
 
-    /// Passes over spaces: the same words are left.
+    /// What is still to be read.
+    fn rest(&self) -> &'a [u8]
+        ensures { result.now ≡ drop self.now.at self.now.text.now }
+    {
+        &self.text[self.at..]
+    }
+
+    /// Passes over all spaces that stand here: the same words are left.
     fn skip_spaces(&mut self)
-        ensures same { self.new.text ≡ self.old.text }
+        ensures forward { Advances self.old self.new }
         ensures left { words_left self.old.text.now self.new.at ≡ words_left self.old.text.now self.old.at }
         ensures stop { statement_end self.old.text.now self.new.at ≡ statement_end self.old.text.now self.old.at }
-        ensures forward { self.old.at ≤ self.new.at }
-        ensures after { self.new.at < length self.old.text.now → slice_index self.old.text.now self.new.at ≢ 32 }
+        ensures after { prefix_len (λ b. b == SPACE) (drop self.new.at self.old.text.now) ≡ 0 }
     {
-        let text = self.text;
-        while self.at < text.len() && text[self.at] == b' ' {
-            self.at += 1;
-        }
+        self.at += spaces(self.rest());
     }
 
     /// The next word of the statement; where none is left, the fault at the statement's end.
     pub fn word(&mut self) -> Result<Word<'a>, Fault>
-        ensures same { self.new.text ≡ self.old.text }
-        ensures forward { self.old.at ≤ self.new.at }
+        ensures forward { Advances self.old self.new }
         ensures cases { elim result [ Ok w ↦ (words_left self.old.text.now self.old.at ≡ piece w.offset w.bytes.now ∷ words_left self.old.text.now self.new.at) × (statement_end self.old.text.now self.new.at ≡ statement_end self.old.text.now self.old.at) | Err f ↦ (words_left self.old.text.now self.old.at ≡ []) × (f ≡ WrongWord self.new.at) × (self.new.at ≡ statement_end self.old.text.now self.old.at) ] }
     {
-        let text = self.text;
         self.skip_spaces();
         let offset = self.at;
-        let stop = word_end(text, offset);
-        if stop == offset {
+        let rest = self.rest();
+        let length = word_length(rest);
+        if length == 0 {
             return Err(Fault::WrongWord { offset });
         }
-        self.at = stop;
+        self.at += length;
         Ok(Word {
             offset,
-            bytes: &text[offset..stop],
+            bytes: &rest[..length],
         })
     }
 
@@ -73,13 +79,11 @@ impl<'a> Cursor<'a> {
         ensures same { self.new.text ≡ self.old.text }
         ensures cases { MatchBool result ((self.old.at < length self.old.text.now) × (slice_index self.old.text.now self.old.at ≡ byte) × (self.new.at ≡ self.old.at + 1)) ((self.new.at ≡ self.old.at) × (self.old.at < length self.old.text.now → slice_index self.old.text.now self.old.at ≢ byte)) }
     {
-        let text = self.text;
-        if self.at < text.len() && text[self.at] == byte {
+        let found = self.rest().first() == Some(&byte);
+        if found {
             self.at += 1;
-            true
-        } else {
-            false
         }
+        found
     }
 
     /// The offset of the cursor in its text.

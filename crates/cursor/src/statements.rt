@@ -1,178 +1,82 @@
 //! How the cursor reads a statement: word by word, each where it has to stand.
-ghost use Rattle.std.specs.Prelude.{◌≡◌, ℕ, ◌≤◌, true, [], ◌∷◌, is_ok, Ok, Err};
-ghost use Rattle.grammar.specs.Pieces.{Piece};
-ghost use Rattle.grammar.specs.Answer.{read_kind, read_register, read_location, read_operand, read_mode, read_operands, read_words, done};
-ghost use Rattle.cursor.specs.Sight.{words_left, statement_end, Takes};
-ghost use Rattle.grammar.specs.declared.kinds.Kind.TheVariants.{Load, Store, Exchange, Add, Fence};
+ghost use Rattle.grammar.specs.Answer.{read_mode, read_operands, read_words, done};
+ghost use Rattle.cursor.specs.Sight.{Takes, Finishes, Advances};
 
 use super::text::*;
-use super::words;
+use super::words::{self, FromWord};
 use faults::Fault;
 use grammar::kinds::*;
 use lang::syntax::*;
 
 impl<'a> Cursor<'a> {
-    /// The next word as the name of a statement.
-    fn kind(&mut self) -> Result<Kind, Fault>
-        ensures same { self.new.text ≡ self.old.text }
-        ensures forward { self.old.at ≤ self.new.at }
-        ensures takes { Takes read_kind self.old.text.now self.old.at result self.new.at }
+    /// The next word as what can stand here.
+    fn take<T: FromWord>(&mut self) -> Result<T, Fault>
+        ensures forward { Advances self.old self.new }
+        ensures takes { Takes T.reads self.old result self.new }
     {
-        words::kind(self.word()?)
-    }
-
-    /// The next word as a register.
-    fn register(&mut self) -> Result<Register, Fault>
-        ensures same { self.new.text ≡ self.old.text }
-        ensures forward { self.old.at ≤ self.new.at }
-        ensures takes { Takes read_register self.old.text.now self.old.at result self.new.at }
-    {
-        words::register(self.word()?)
-    }
-
-    /// The next word as a location.
-    fn location(&mut self) -> Result<Location, Fault>
-        ensures same { self.new.text ≡ self.old.text }
-        ensures forward { self.old.at ≤ self.new.at }
-        ensures takes { Takes read_location self.old.text.now self.old.at result self.new.at }
-    {
-        words::location(self.word()?)
-    }
-
-    /// The next word as a value.
-    fn operand(&mut self) -> Result<Operand, Fault>
-        ensures same { self.new.text ≡ self.old.text }
-        ensures forward { self.old.at ≤ self.new.at }
-        ensures takes { Takes read_operand self.old.text.now self.old.at result self.new.at }
-    {
-        words::operand(self.word()?)
+        T::from_word(self.word()?)
     }
 
     /// The next word as a mode of this statement.
     fn mode(&mut self, kind: Kind) -> Result<Mode, Fault>
-        ensures same { self.new.text ≡ self.old.text }
-        ensures forward { self.old.at ≤ self.new.at }
-        ensures takes { Takes (read_mode kind) self.old.text.now self.old.at result self.new.at }
+        ensures forward { Advances self.old self.new }
+        ensures takes { Takes (read_mode kind) self.old result self.new }
     {
         words::mode(kind, self.word()?)
     }
 
     /// The statement ends here; a word more is refused.
-    fn finish(&mut self) -> Result<(), Fault>
-        ensures same { self.new.text ≡ self.old.text }
-        ensures forward { self.old.at ≤ self.new.at }
-        ensures value { result ≡ done tt (words_left self.old.text.now self.old.at) }
-        ensures after { is_ok result ≡ true → self.new.at ≡ statement_end self.old.text.now self.old.at }
+    fn finish(&mut self, statement: Statement) -> Result<Statement, Fault>
+        ensures forward { Advances self.old self.new }
+        ensures finishes { Finishes (λ ws _. done statement ws) self.old result self.new }
     {
         match self.word() {
-            Ok(word) => Err(Fault::WrongWord {
-                offset: word.offset,
-            }),
-            Err(_) => Ok(()),
+            Ok(word) => Err(word.wrong()),
+            Err(_) => Ok(statement),
         }
     }
 
-    /// The rest of `ld R L M`.
-    fn load(&mut self) -> Result<Statement, Fault>
-        ensures same { self.new.text ≡ self.old.text }
-        ensures forward { self.old.at ≤ self.new.at }
-        ensures value { result ≡ read_operands Load (words_left self.old.text.now self.old.at) (statement_end self.old.text.now self.old.at) }
-        ensures after { is_ok result ≡ true → self.new.at ≡ statement_end self.old.text.now self.old.at }
+    /// What follows the first word of a statement.
+    fn operands(&mut self, kind: Kind) -> Result<Statement, Fault>
+        ensures forward { Advances self.old self.new }
+        ensures finishes { Finishes (read_operands kind) self.old result self.new }
     {
-        let register = self.register()?;
-        let location = self.location()?;
-        let mode = self.mode(Kind::Load)?;
-        self.finish()?;
-        Ok(Statement::Load {
-            register,
-            location,
-            mode,
-        })
-    }
-
-    /// The rest of `st L V M`.
-    fn store(&mut self) -> Result<Statement, Fault>
-        ensures same { self.new.text ≡ self.old.text }
-        ensures forward { self.old.at ≤ self.new.at }
-        ensures value { result ≡ read_operands Store (words_left self.old.text.now self.old.at) (statement_end self.old.text.now self.old.at) }
-        ensures after { is_ok result ≡ true → self.new.at ≡ statement_end self.old.text.now self.old.at }
-    {
-        let location = self.location()?;
-        let operand = self.operand()?;
-        let mode = self.mode(Kind::Store)?;
-        self.finish()?;
-        Ok(Statement::Store {
-            location,
-            operand,
-            mode,
-        })
-    }
-
-    /// The rest of `xchg R L V M`.
-    fn exchange(&mut self) -> Result<Statement, Fault>
-        ensures same { self.new.text ≡ self.old.text }
-        ensures forward { self.old.at ≤ self.new.at }
-        ensures value { result ≡ read_operands Exchange (words_left self.old.text.now self.old.at) (statement_end self.old.text.now self.old.at) }
-        ensures after { is_ok result ≡ true → self.new.at ≡ statement_end self.old.text.now self.old.at }
-    {
-        let register = self.register()?;
-        let location = self.location()?;
-        let operand = self.operand()?;
-        let mode = self.mode(Kind::Exchange)?;
-        self.finish()?;
-        Ok(Statement::Exchange {
-            register,
-            location,
-            operand,
-            mode,
-        })
-    }
-
-    /// The rest of `add R L V M`.
-    fn add(&mut self) -> Result<Statement, Fault>
-        ensures same { self.new.text ≡ self.old.text }
-        ensures forward { self.old.at ≤ self.new.at }
-        ensures value { result ≡ read_operands Add (words_left self.old.text.now self.old.at) (statement_end self.old.text.now self.old.at) }
-        ensures after { is_ok result ≡ true → self.new.at ≡ statement_end self.old.text.now self.old.at }
-    {
-        let register = self.register()?;
-        let location = self.location()?;
-        let operand = self.operand()?;
-        let mode = self.mode(Kind::Add)?;
-        self.finish()?;
-        Ok(Statement::Add {
-            register,
-            location,
-            operand,
-            mode,
-        })
-    }
-
-    /// The rest of `fence M`.
-    fn fence(&mut self) -> Result<Statement, Fault>
-        ensures same { self.new.text ≡ self.old.text }
-        ensures forward { self.old.at ≤ self.new.at }
-        ensures value { result ≡ read_operands Fence (words_left self.old.text.now self.old.at) (statement_end self.old.text.now self.old.at) }
-        ensures after { is_ok result ≡ true → self.new.at ≡ statement_end self.old.text.now self.old.at }
-    {
-        let mode = self.mode(Kind::Fence)?;
-        self.finish()?;
-        Ok(Statement::Fence { mode })
+        let statement = match kind {
+            Kind::Load => Statement::Load {
+                register: self.take()?,
+                location: self.take()?,
+                mode: self.mode(kind)?,
+            },
+            Kind::Store => Statement::Store {
+                location: self.take()?,
+                operand: self.take()?,
+                mode: self.mode(kind)?,
+            },
+            Kind::Exchange => Statement::Exchange {
+                register: self.take()?,
+                location: self.take()?,
+                operand: self.take()?,
+                mode: self.mode(kind)?,
+            },
+            Kind::Add => Statement::Add {
+                register: self.take()?,
+                location: self.take()?,
+                operand: self.take()?,
+                mode: self.mode(kind)?,
+            },
+            Kind::Fence => Statement::Fence {
+                mode: self.mode(kind)?,
+            },
+        };
+        self.finish(statement)
     }
 
     /// The statement that begins here, up to its `;`, LF or the text's end.
     pub fn statement(&mut self) -> Result<Statement, Fault>
-        ensures same { self.new.text ≡ self.old.text }
-        ensures forward { self.old.at ≤ self.new.at }
-        ensures value { result ≡ read_words (words_left self.old.text.now self.old.at) (statement_end self.old.text.now self.old.at) }
-        ensures after { is_ok result ≡ true → self.new.at ≡ statement_end self.old.text.now self.old.at }
+        ensures forward { Advances self.old self.new }
+        ensures finishes { Finishes read_words self.old result self.new }
     {
-        match self.kind()? {
-            Kind::Load => self.load(),
-            Kind::Store => self.store(),
-            Kind::Exchange => self.exchange(),
-            Kind::Add => self.add(),
-            Kind::Fence => self.fence(),
-        }
+        let kind = self.take()?;
+        self.operands(kind)
     }
 }

@@ -1,104 +1,64 @@
 //! What single words say.
-ghost use Rattle.std.specs.Prelude.{◌≡◌, ◌<◌, if◌then◌else◌, Some, None, nat_le};
-ghost use Rattle.std.specs.Str.{all_ascii_digits, bytes_eq};
-ghost use Rattle.grammar.specs.Pieces.{piece};
-ghost use Rattle.grammar.specs.Table.{number};
-ghost use Rattle.grammar.specs.Answer.{register_of, mode_of, moded, read_kind, read_register, read_location, read_operand, read_mode, read_number};
+ghost use Rattle.std.specs.Prelude.{◌≡◌, if◌then◌else◌, Some, None, Result, nat_le};
+ghost use Rattle.std.specs.Char.{is_ascii_digit};
+ghost use Rattle.std.specs.List.{list_all};
+ghost use Rattle.faults.specs.declared.Fault.{Fault};
+ghost use Rattle.faults.specs.declared.Fault.TheVariants.{WrongWord};
+ghost use Rattle.grammar.specs.Pieces.{Piece, piece};
+ghost use Rattle.grammar.specs.Table.{number, takes};
+ghost use Rattle.grammar.specs.Answer.{register_of, mode_of, read_kind, read_register, read_location, read_operand, read_mode};
 
 use super::text::*;
 use faults::Fault;
 use grammar::kinds::*;
 use lang::syntax::*;
 
-/// The largest number that a statement can write.
-const MAX_VALUE: u32 = 255;
+/// What one word can be read as.
+pub(crate) trait FromWord: Sized {
+    /// What the word says where it stands, or the fault at it.
+    ghost reads: { Piece → Result Self Fault };
 
-/// If a word is a given one.
-fn is(word: &[u8], name: &[u8]) -> bool
-    ensures { result ≡ bytes_eq word.now name.now }
-{
-    word == name
+    fn from_word(word: Word) -> Result<Self, Fault>
+        ensures { result ≡ reads (piece word.entry.offset word.entry.bytes.now) };
 }
 
-/// The statement that a word names.
-pub fn kind(word: Word) -> Result<Kind, Fault>
-    ensures { result ≡ read_kind (piece word.entry.offset word.entry.bytes.now) }
-{
-    let bytes = word.bytes;
-    if is(bytes, b"ld") {
-        Ok(Kind::Load)
-    } else if is(bytes, b"st") {
-        Ok(Kind::Store)
-    } else if is(bytes, b"xchg") {
-        Ok(Kind::Exchange)
-    } else if is(bytes, b"add") {
-        Ok(Kind::Add)
-    } else if is(bytes, b"fence") {
-        Ok(Kind::Fence)
-    } else {
-        Err(Fault::WrongWord {
-            offset: word.offset,
-        })
+impl<'a> Word<'a> {
+    /// The fault of a word that is none of what can stand here.
+    pub(crate) fn wrong(&self) -> Fault
+        ensures { result ≡ WrongWord self.now.offset }
+    {
+        Fault::WrongWord {
+            offset: self.offset,
+        }
     }
 }
 
-/// The mode that a word names.
-fn mode_named(word: &[u8]) -> Option<Mode>
-    ensures { result ≡ mode_of word.now }
-{
-    if is(word, b"rlx") {
-        Some(Mode::Relaxed)
-    } else if is(word, b"acq") {
-        Some(Mode::Acquire)
-    } else if is(word, b"rel") {
-        Some(Mode::Release)
-    } else if is(word, b"ar") {
-        Some(Mode::AcquireRelease)
-    } else if is(word, b"sc") {
-        Some(Mode::SeqCst)
-    } else {
-        None
+impl FromWord for Kind {
+    ghost reads = { read_kind };
+
+    fn from_word(word: Word) -> Result<Kind, Fault> {
+        match word.bytes {
+            b"ld" => Ok(Kind::Load),
+            b"st" => Ok(Kind::Store),
+            b"xchg" => Ok(Kind::Exchange),
+            b"add" => Ok(Kind::Add),
+            b"fence" => Ok(Kind::Fence),
+            _ => Err(word.wrong()),
+        }
     }
 }
 
-/// The mode, if it is one that the statement takes.
-fn accepted(kind: Kind, mode: Option<Mode>, offset: usize) -> Result<Mode, Fault>
-    ensures { result ≡ moded kind mode offset }
-{
-    match (kind, mode) {
-        (_, None) => Err(Fault::WrongWord { offset }),
-        (Kind::Load, Some(m)) if m == Mode::Release || m == Mode::AcquireRelease => Err(
-            Fault::WrongMode { offset },
-        ),
-        (Kind::Store, Some(m)) if m == Mode::Acquire || m == Mode::AcquireRelease => Err(
-            Fault::WrongMode { offset },
-        ),
-        (Kind::Fence, Some(m)) if m == Mode::Relaxed => Err(Fault::WrongMode { offset }),
-        (_, Some(m)) => Ok(m),
-    }
-}
+impl FromWord for Location {
+    ghost reads = { read_location };
 
-/// The mode that a word names, if the statement takes it.
-pub fn mode(kind: Kind, word: Word) -> Result<Mode, Fault>
-    ensures { result ≡ read_mode kind (piece word.entry.offset word.entry.bytes.now) }
-{
-    accepted(kind, mode_named(word.bytes), word.offset)
-}
-
-/// The location that a word names.
-pub fn location(word: Word) -> Result<Location, Fault>
-    ensures { result ≡ read_location (piece word.entry.offset word.entry.bytes.now) }
-{
-    let offset = word.offset;
-    if word.bytes.len() != 1 {
-        return Err(Fault::WrongWord { offset });
-    }
-    match word.bytes[0] as char {
-        'x' => Ok(Location::X),
-        'y' => Ok(Location::Y),
-        'z' => Ok(Location::Z),
-        'w' => Ok(Location::W),
-        _ => Err(Fault::WrongWord { offset }),
+    fn from_word(word: Word) -> Result<Location, Fault> {
+        match word.bytes {
+            b"x" => Ok(Location::X),
+            b"y" => Ok(Location::Y),
+            b"z" => Ok(Location::Z),
+            b"w" => Ok(Location::W),
+            _ => Err(word.wrong()),
+        }
     }
 }
 
@@ -106,69 +66,95 @@ pub fn location(word: Word) -> Result<Location, Fault>
 fn register_named(word: &[u8]) -> Option<Register>
     ensures { result ≡ register_of word.now }
 {
-    if word.len() != 2 || word[0] != b'r' {
-        return None;
-    }
-    match word[1] as char {
-        '0' => Some(Register::R0),
-        '1' => Some(Register::R1),
-        '2' => Some(Register::R2),
-        '3' => Some(Register::R3),
+    match word {
+        b"r0" => Some(Register::R0),
+        b"r1" => Some(Register::R1),
+        b"r2" => Some(Register::R2),
+        b"r3" => Some(Register::R3),
         _ => None,
     }
 }
 
-/// The register that a word names.
-pub fn register(word: Word) -> Result<Register, Fault>
-    ensures { result ≡ read_register (piece word.entry.offset word.entry.bytes.now) }
-{
-    match register_named(word.bytes) {
-        Some(register) => Ok(register),
-        None => Err(Fault::WrongWord {
-            offset: word.offset,
-        }),
+impl FromWord for Register {
+    ghost reads = { read_register };
+
+    fn from_word(word: Word) -> Result<Register, Fault> {
+        register_named(word.bytes).ok_or(word.wrong())
     }
 }
 
 /// If a word is of digits alone.
 fn all_digits(word: &[u8]) -> bool
-    ensures { result ≡ all_ascii_digits word.now }
+    ensures { result ≡ list_all is_ascii_digit word.now }
 {
-    for byte in word {
-        if !byte.is_ascii_digit() {
-            return false;
-        }
-    }
-    true
+    word.iter().all(u8::is_ascii_digit)
 }
 
 /// The number that digits write, if it is at most 255.
 fn value(digits: &[u8]) -> Option<u8>
     ensures { result ≡ (if nat_le (number digits.now) 255 then Some (number digits.now) else None) }
 {
-    let mut value: u32 = 0;
-    for digit in digits {
-        value = value * 10 + u32::from(digit.saturating_sub(b'0'));
-        if value > MAX_VALUE {
-            return None;
-        }
-    }
-    Some(value as u8)
+    digits.iter().try_fold(0u8, |value, digit| {
+        value
+            .checked_mul(10)?
+            .checked_add(digit.saturating_sub(b'0'))
+    })
 }
 
-/// The operand that a word names: a register, or a number of at most 255.
-pub fn operand(word: Word) -> Result<Operand, Fault>
-    ensures { result ≡ read_operand (piece word.entry.offset word.entry.bytes.now) }
+/// A register, or a number of at most 255.
+impl FromWord for Operand {
+    ghost reads = { read_operand };
+
+    fn from_word(word: Word) -> Result<Operand, Fault> {
+        if let Some(register) = register_named(word.bytes) {
+            return Ok(Operand::Held(register));
+        }
+        if !all_digits(word.bytes) {
+            return Err(word.wrong());
+        }
+        value(word.bytes)
+            .map(Operand::Value)
+            .ok_or(Fault::LargeNumber {
+                offset: word.offset,
+            })
+    }
+}
+
+/// The mode that a word names.
+fn mode_named(word: &[u8]) -> Option<Mode>
+    ensures { result ≡ mode_of word.now }
 {
-    let offset = word.offset;
-    if let Some(register) = register_named(word.bytes) {
-        return Ok(Operand::Held(register));
+    match word {
+        b"rlx" => Some(Mode::Relaxed),
+        b"acq" => Some(Mode::Acquire),
+        b"rel" => Some(Mode::Release),
+        b"ar" => Some(Mode::AcquireRelease),
+        b"sc" => Some(Mode::SeqCst),
+        _ => None,
     }
-    if !all_digits(word.bytes) {
-        return Err(Fault::WrongWord { offset });
+}
+
+/// If a statement takes a mode.
+fn takes(kind: Kind, mode: Mode) -> bool
+    ensures { result ≡ takes kind mode }
+{
+    match kind {
+        Kind::Load => !matches!(mode, Mode::Release | Mode::AcquireRelease),
+        Kind::Store => !matches!(mode, Mode::Acquire | Mode::AcquireRelease),
+        Kind::Exchange | Kind::Add => true,
+        Kind::Fence => mode != Mode::Relaxed,
     }
-    match value(word.bytes) {
-        Some(value) => Ok(Operand::Value(value)),
-        None => Err(Fault::LargeNumber { offset }),
+}
+
+/// The mode that a word names, if the statement takes it.
+pub(crate) fn mode(kind: Kind, word: Word) -> Result<Mode, Fault>
+    ensures { result ≡ read_mode kind (piece word.entry.offset word.entry.bytes.now) }
+{
+    let mode = mode_named(word.bytes).ok_or(word.wrong())?;
+    if !takes(kind, mode) {
+        return Err(Fault::WrongMode {
+            offset: word.offset,
+        });
     }
+    Ok(mode)
 }

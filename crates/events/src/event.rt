@@ -1,6 +1,6 @@
 //! What a statement does in an execution.
 ghost use Rattle.std.specs.Prelude.{◌≡◌};
-ghost use Rattle.events.specs.Events.{read_by, written_by, is_fence, mode_of, location_of};
+ghost use Rattle.events.specs.Events.{initial_write, read_by, written_by, is_fence, mode_of, location_of};
 
 use lang::syntax::*;
 
@@ -9,6 +9,9 @@ pub const STATEMENTS: usize = 32;
 
 /// The number of events: after those of the statements the initial writes of x, y, z and w.
 pub const EVENTS: usize = 36;
+
+/// The number of locations.
+pub const LOCATIONS: usize = 4;
 
 /// What a statement did; an update reads and writes in one.
 #[derive(Clone, Copy, PartialEq, Eq)]
@@ -42,6 +45,17 @@ pub struct Access {
 }
 
 impl Event {
+    /// The initial write of a location: 0.
+    pub fn initial_write(location: Location) -> Event
+        ensures { result ≡ initial_write location }
+    {
+        Event::Store {
+            location,
+            mode: Mode::Relaxed,
+            written: 0,
+        }
+    }
+
     /// What it reads, if it reads.
     pub fn read(self) -> Option<Access>
         ensures { result ≡ read_by self }
@@ -90,12 +104,7 @@ impl Event {
     pub fn is_fence(self) -> bool
         ensures { result ≡ is_fence self }
     {
-        match self {
-            Event::Load { .. } => false,
-            Event::Store { .. } => false,
-            Event::Update { .. } => false,
-            Event::Fence { .. } => true,
-        }
+        matches!(self, Event::Fence { .. })
     }
 
     /// How strongly it orders others.

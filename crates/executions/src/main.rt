@@ -6,8 +6,8 @@
 
 mod parts;
 
-use anyhow::anyhow;
-use consistency::verdict::*;
+use anyhow::{Context, bail, ensure};
+use consistency::verdict::number;
 use graph::graph::Graph;
 use outcomes::outcome::*;
 use outcomes::{is_graph_of, outcome_of};
@@ -23,20 +23,18 @@ fn program_of(rt: &HostRuntime, line: &str) -> anyhow::Result<Program> {
     for byte in line.bytes() {
         text.push(if byte == b'/' { b'\n' } else { byte })?;
     }
-    match reader::read(text.as_slice()) {
-        Ok(program) => Ok(program),
-        Err(_) => Err(anyhow!("a line of data/ is no program")),
-    }
+    reader::read(text.as_slice()).context("a line of data/ is no program")
 }
 
 /// The graph of a line, which has to be one of the program.
 fn graph_of(program: &Program, line: &str) -> anyhow::Result<Graph> {
-    let Some(graph) = Parts::read(line)?.graph(program) else {
-        return Err(anyhow!("a line of data/ is no graph"));
-    };
-    if !is_graph_of(&graph, program) {
-        return Err(anyhow!("a line of data/ is no graph of its program"));
-    }
+    let graph = Parts::read(line)?
+        .graph(program)
+        .context("a line of data/ is no graph")?;
+    ensure!(
+        is_graph_of(&graph, program),
+        "a line of data/ is no graph of its program"
+    );
     Ok(graph)
 }
 
@@ -62,11 +60,11 @@ fn judge(rt: &HostRuntime, text: &str) -> anyhow::Result<()> {
             }
             (Some(("program", source)), _) => program = Some(program_of(rt, source)?),
             (Some(("graph", parts)), Some(of)) => {
-                if verdict(&graph_of(&of, parts)?) == Verdict::Consistent {
+                if verdict(&graph_of(&of, parts)?).is_ok() {
                     allowed = Some(true);
                 }
             }
-            _ => return Err(anyhow!("a line of data/litmus is none")),
+            _ => bail!("a line of data/litmus is none"),
         }
     }
     end_test(rt, allowed)?;
@@ -110,7 +108,7 @@ fn show(rt: &HostRuntime, text: &str) -> anyhow::Result<()> {
                 print_order(rt, before, &outcome)?;
                 before = Some(outcome);
             }
-            _ => return Err(anyhow!("a line of data/reports is none")),
+            _ => bail!("a line of data/reports is none"),
         }
     }
     Ok(())
@@ -123,10 +121,10 @@ fn judge_each(rt: &HostRuntime, text: &str) -> anyhow::Result<()> {
         match (line.split_once(' '), program) {
             (Some(("program", source)), _) => program = Some(program_of(rt, source)?),
             (Some(("graph", parts)), Some(of)) => match Parts::read(parts)?.graph(&of) {
-                Some(graph) => println!(rt; "verdict {}", verdict(&graph).number())?,
+                Some(graph) => println!(rt; "verdict {}", number(verdict(&graph)))?,
                 None => println!(rt; "no graph")?,
             },
-            _ => return Err(anyhow!("a line of data/rules is none")),
+            _ => bail!("a line of data/rules is none"),
         }
     }
     Ok(())

@@ -4,24 +4,25 @@
 ghost use Rattle.std.specs.Prelude.{◌≡◌, ◌++◌, Some};
 ghost use Rattle.faults.specs.Refusals.{refusal, refusal_line, side_pass, search_place};
 
+use std::error::Error;
 use std::fmt;
 
 /// Which of the two ways to run a program refuses.
-#[derive(Clone, Copy, PartialEq, Eq)]
+#[derive(Clone, Copy, Debug, PartialEq, Eq)]
 pub enum Side {
     Machine,
     Draft,
 }
 
 /// Which list a search was for.
-#[derive(Clone, Copy, PartialEq, Eq)]
+#[derive(Clone, Copy, Debug, PartialEq, Eq)]
 pub enum Search {
     Shown,
     Allowed,
 }
 
 /// Why a call refused. Offsets count the bytes of the text from 0.
-#[derive(Clone, Copy, PartialEq, Eq)]
+#[derive(Clone, Copy, Debug, PartialEq, Eq)]
 pub enum Fault {
     /// The text is empty or longer than 2,048 bytes.
     TextLength,
@@ -111,21 +112,15 @@ impl Fault {
         ensures { result ≡ (refusal self).pass }
     {
         match self {
-            Fault::TextLength => 1,
-            Fault::ForeignByte { .. } => 1,
-            Fault::FifthLine { .. } => 2,
-            Fault::NinthStatement { .. } => 2,
-            Fault::WrongWord { .. } => 2,
-            Fault::WrongMode { .. } => 2,
-            Fault::LargeNumber { .. } => 2,
-            Fault::NoThread { side, .. } => side.pass(),
-            Fault::NothingLeft { side, .. } => side.pass(),
-            Fault::StoresPending { .. } => 4,
-            Fault::NoStorePending { .. } => 4,
+            Fault::TextLength | Fault::ForeignByte { .. } => 1,
+            Fault::FifthLine { .. } | Fault::NinthStatement { .. } => 2,
+            Fault::WrongWord { .. } | Fault::WrongMode { .. } | Fault::LargeNumber { .. } => 2,
+            Fault::NoThread { side, .. }
+            | Fault::NothingLeft { side, .. }
+            | Fault::Unfinished { side, .. } => side.pass(),
+            Fault::StoresPending { .. } | Fault::NoStorePending { .. } => 4,
             Fault::NoWrite { .. } => 5,
-            Fault::Unfinished { side, .. } => side.pass(),
-            Fault::TableFull { .. } => 6,
-            Fault::ListFull { .. } => 6,
+            Fault::TableFull { .. } | Fault::ListFull { .. } => 6,
             Fault::ReportFull { .. } => 7,
         }
     }
@@ -136,20 +131,19 @@ impl Fault {
     {
         match self {
             Fault::TextLength => 0,
-            Fault::ForeignByte { offset } => offset,
-            Fault::FifthLine { offset } => offset,
-            Fault::NinthStatement { offset } => offset,
-            Fault::WrongWord { offset } => offset,
-            Fault::WrongMode { offset } => offset,
-            Fault::LargeNumber { offset } => offset,
-            Fault::NoThread { thread, .. } => thread,
-            Fault::NothingLeft { thread, .. } => thread,
-            Fault::StoresPending { thread } => thread,
-            Fault::NoStorePending { thread } => thread,
-            Fault::NoWrite { thread } => thread,
-            Fault::Unfinished { thread, .. } => thread,
-            Fault::TableFull { search } => search.place(),
-            Fault::ListFull { search } => search.place(),
+            Fault::ForeignByte { offset }
+            | Fault::FifthLine { offset }
+            | Fault::NinthStatement { offset }
+            | Fault::WrongWord { offset }
+            | Fault::WrongMode { offset }
+            | Fault::LargeNumber { offset } => offset,
+            Fault::NoThread { thread, .. }
+            | Fault::NothingLeft { thread, .. }
+            | Fault::StoresPending { thread }
+            | Fault::NoStorePending { thread }
+            | Fault::NoWrite { thread }
+            | Fault::Unfinished { thread, .. } => thread,
+            Fault::TableFull { search } | Fault::ListFull { search } => search.place(),
             Fault::ReportFull { lines } => lines,
         }
     }
@@ -166,3 +160,5 @@ impl fmt::Display for Fault {
         write!(f, "refused {number} pass {pass} place {place}")
     }
 }
+
+impl Error for Fault {}

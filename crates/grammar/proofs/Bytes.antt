@@ -1,7 +1,9 @@
 -- The first pass over the bytes. Either all bytes are permitted, and then `foreign` finds none, or there is a first one that
--- is not, and then `foreign` finds its offset. Both by induction over the bytes; that one of the two holds too.
-use Rattle.std.proofs.Common.{◌≡◌, ℕ, zero, suc, ◌+◌, ◌<◌, true, false, ◌⊎◌, List, [], ◌∷◌, length, get_or, Some, None, refl, ap, ◌∙◌, inl, inr, arith}
-use Rattle.std.proofs.lemmas.Bool.{cases_Bool}
+-- is not, and then `foreign` finds its offset. That one of the two holds is by induction over the bytes.
+use Rattle.std.proofs.Common.{◌≡◌, ℕ, zero, suc, ◌<◌, Bool, true, false, not, ltb, ◌⊎◌, List, [], ◌∷◌, length, get_or, Some, None, ap, ◌∙◌, inl, inr, arith}
+use Rattle.std.specs.List.{position_or_len}
+use Rattle.std.proofs.lemmas.Bool.{cases_Bool, cond-true, cond-false, lt-ltb, le-ltb}
+use Rattle.std.proofs.lemmas.List.Sums.{position_or_len_is}
 use Rattle.grammar.specs.Texts.{permitted, AllPermitted}
 use Rattle.grammar.specs.Answer.{foreign}
 
@@ -24,13 +26,17 @@ permitted_or_first (b ∷ bs) = elim (cases_Bool (permitted b)) [
   ]
 ]
 
-pub foreign_none : (at : ℕ) (bs : List ℕ) → AllPermitted bs (length bs) → foreign at bs ≡ None
-foreign_none at [] h = refl
-foreign_none at (b ∷ bs) h = rw (h 0 (omega arith)) (foreign_none (at + 1) bs (λ i l. h (suc i) (omega arith)))
+abbrev refused : ℕ → Bool
+refused b = not (permitted b)
 
-pub foreign_first : (at : ℕ) (bs : List ℕ) (i : ℕ) → FirstForeign bs i → foreign at bs ≡ Some (at + i)
-foreign_first at [] i h = absurd (omega (arith, h.within))
-foreign_first at (b ∷ bs) zero h = rw h.wrong (ap Some (omega arith))
-foreign_first at (b ∷ bs) (suc i) h =
-    rw (h.before 0 (omega arith))
-    (foreign_first (at + 1) bs i (record { within = omega (arith, h.within); wrong = h.wrong; before = λ j l. h.before (suc j) (omega arith) }) ∙ ap Some (omega arith))
+pub foreign_none : (text : List ℕ) → AllPermitted text (length text) → foreign text ≡ None
+foreign_none text h =
+    let none : position_or_len refused text ≡ length text =
+    position_or_len_is refused text (length text) 0 (omega arith) (λ k l. ap not (h k l)) (λ l. absurd (omega arith)) in
+    cond-false (ltb (position_or_len refused text) (length text)) _ _ (le-ltb _ _ (omega arith))
+
+pub foreign_first : (text : List ℕ) (i : ℕ) → FirstForeign text i → foreign text ≡ Some i
+foreign_first text i h =
+    let first : position_or_len refused text ≡ i =
+    position_or_len_is refused text i 0 (omega (arith, h.within)) (λ k l. ap not (h.before k l)) (λ _. ap not h.wrong) in
+    cond-true (ltb (position_or_len refused text) (length text)) _ _ (lt-ltb _ _ (omega (arith, h.within))) ∙ ap Some first

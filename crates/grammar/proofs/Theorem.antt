@@ -66,10 +66,10 @@ unfolding answer
 answer_bytes text a b = rw (lt-ltb 0 (length text) a, le-leb (length text) 2048 b)
 
 answer_foreign : (text : List ℕ) → 0 < length text → length text ≤ 2048 → (i : ℕ) → FirstForeign text i → answer text ≡ Err (ForeignByte i)
-answer_foreign text a b i h = answer_bytes text a b ∙ rw (foreign_first 0 text i h) (ap (λ i. Err (ForeignByte i)) (omega arith))
+answer_foreign text a b i h = answer_bytes text a b ∙ rw (foreign_first text i h)
 
 answer_threads : (text : List ℕ) → 0 < length text → length text ≤ 2048 → AllPermitted text (length text) → answer text ≡ read_threads text
-answer_threads text a b h = answer_bytes text a b ∙ rw (foreign_none 0 text h)
+answer_threads text a b h = answer_bytes text a b ∙ rw (foreign_none text h)
 
 thread_right : (line : Piece) → ReadsRight read_thread SpellsThread ThreadFault line
 thread_right line = each_right ninth (omega arith) statement_faults_lie statement_right 8 statements line (statements_ordered line)

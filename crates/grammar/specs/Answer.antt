@@ -1,5 +1,5 @@
 -- What reading a text answers, computed from left to right.
-use Rattle.std.specs.Prelude.{ℕ, zero, suc, ◌+◌, cond, ◌&&◌, List, [], ◌∷◌, length, Some, None, Ok, Err, Option, Result, nat_le, nat_lt}
+use Rattle.std.specs.Prelude.{ℕ, zero, suc, cond, not, ◌&&◌, List, [], ◌∷◌, length, Some, None, Ok, Err, Option, Result, find, position, ok_or, nat_le, nat_lt}
 use Rattle.std.specs.Str.{all_ascii_digits, bytes_eq}
 use Rattle.lang.specs.declared.syntax.Mode.{Mode}
 use Rattle.lang.specs.declared.syntax.Mode.TheVariants.{Relaxed, Acquire, Release, AcquireRelease, SeqCst}
@@ -22,8 +22,7 @@ use Rattle.grammar.specs.Texts.{permitted}
 
 -- The first of some things whose name a word is.
 abbrev pub named : {X : Type 0} → (X → List ℕ) → List X → List ℕ → Option X
-named name [] w = None
-named name (x ∷ xs) w = cond (bytes_eq w (name x)) (Some x) (named name xs w)
+named name xs w = find (λ x. bytes_eq w (name x)) xs
 
 abbrev pub kind_of : List ℕ → Option Kind
 kind_of w = named kind_name (Ld ∷ St ∷ Xchg ∷ Sum ∷ Bar ∷ []) w
@@ -39,8 +38,7 @@ mode_of w = named mode_name (Relaxed ∷ Acquire ∷ Release ∷ AcquireRelease 
 
 -- What a word is read as where it stands, or the fault at it.
 abbrev pub known : {X : Type 0} → Option X → ℕ → Result X Fault
-known (Some x) at = Ok x
-known None at = Err (WrongWord at)
+known word at = ok_or word (WrongWord at)
 
 abbrev pub read_kind : Piece → Result Kind Fault
 read_kind w = known (kind_of w.bytes) w.offset
@@ -113,10 +111,9 @@ read_thread line = read_each 8 NinthStatement read_statement (statements line)
 abbrev pub read_threads : List ℕ → Result (List (List Statement)) Fault
 read_threads text = read_each 4 FifthLine read_thread (lines text)
 
--- The offset of the first byte that is not permitted; the bytes stand at the offset `at`.
-abbrev pub foreign : ℕ → List ℕ → Option ℕ
-foreign at [] = None
-foreign at (b ∷ bs) = cond (permitted b) (foreign (at + 1) bs) (Some at)
+-- The offset of the first byte that is not permitted.
+abbrev pub foreign : List ℕ → Option ℕ
+foreign text = position (λ b. not (permitted b)) text
 
 -- The fault at a foreign byte, if there is one.
 abbrev pub no_foreign : Option ℕ → Result (Unit {0}) Fault
@@ -124,7 +121,7 @@ no_foreign (Some at) = Err (ForeignByte at)
 no_foreign None = Ok tt
 
 abbrev pub read_bytes : List ℕ → Result (List (List Statement)) Fault
-read_bytes text = and_then (no_foreign (foreign 0 text)) λ _. read_threads text
+read_bytes text = and_then (no_foreign (foreign text)) λ _. read_threads text
 
 -- The answer for any text.
 unfoldable pub answer : List ℕ → Result (List (List Statement)) Fault

@@ -1,5 +1,5 @@
 -- The table of statements: which words spell a statement, and why a word or its absence is refused.
-use Rattle.std.specs.Prelude.{◌≡◌, ℕ, ◌+◌, ◌-◌, ◌*◌, ◌<◌, ◌≤◌, Bool, true, false, List, [], ◌∷◌, length, Some, codes, ◌≢◌}
+use Rattle.std.specs.Prelude.{◌≡◌, ℕ, ◌+◌, ◌-◌, ◌*◌, ◌<◌, ◌≤◌, Bool, true, false, List, [], ◌∷◌, length, Some, codes, fold, ◌≢◌}
 use Rattle.std.specs.List.{slice_get}
 use Rattle.std.specs.Str.{all_ascii_digits}
 use Rattle.lang.specs.declared.syntax.Mode.{Mode}
@@ -32,13 +32,9 @@ takes Xchg m = true
 takes Sum m = true
 takes Bar m = elim m [ Relaxed ↦ false | Acquire ↦ true | Release ↦ true | AcquireRelease ↦ true | SeqCst ↦ true ]
 
--- The number that digits write after the number n: each digit counts ten times what follows it.
-abbrev pub number_on : ℕ → List ℕ → ℕ
-number_on n [] = n
-number_on n (d ∷ ds) = number_on (n * 10 + (d - 48)) ds
-
+-- The number that digits write: each digit counts ten times what follows it.
 abbrev pub number : List ℕ → ℕ
-number ds = number_on 0 ds
+number ds = fold (λ n d. n * 10 + (d - 48)) 0 ds
 
 -- A value is written as a register or in digits, with any number of zeros in front.
 pub data SpellsOperand (w : List ℕ) : Operand → Type 0 where

@@ -1,17 +1,12 @@
 -- Every graph that exists is formed, as its own fields say; and parts are formed where they fit one by one.
-use Rattle.std.proofs.Common.{◌≡◌, ℕ, ◌<◌, true, List, [], map, get_or, Option}
+use Rattle.std.proofs.Common.{◌≡◌, ℕ, ◌<◌, Bool, true, List, [], get_or, Decides, Option}
 use Rattle.events.specs.declared.event.Event.{Event}
-use Rattle.orders.specs.Orders.{members}
-use Rattle.graph.specs.declared.graph.Graph.{Graph}
 use Rattle.graph.specs.Formed.{source_fits, OrderFits, Formed}
 use Rattle.graph.proofs.Fitting.{writes_below_4}
 
-pub formed : (g : Graph) → Formed g.events g.sources (map members g.mo)
-formed g = record { rf = g.rf; begins = g.begins; only = g.only; all = g.all; once = g.once }
-
 module _ {events : List (Option Event)} {sources : List (Option ℕ)} {orders : List (List ℕ)} where
   -- Sources and orders that fit one by one are those of a graph,
-  pub formed_from_fits : ((r : ℕ) → r < 32 → source_fits events sources r ≡ true) → ((l : ℕ) → l < 4 → OrderFits events (get_or orders l []) l) → Formed events sources orders
+  formed_from_fits : ((r : ℕ) → r < 32 → source_fits events sources r ≡ true) → ((l : ℕ) → l < 4 → OrderFits events (get_or orders l []) l) → Formed events sources orders
   formed_from_fits rf fit =
       record {
         rf = rf;
@@ -22,7 +17,7 @@ module _ {events : List (Option Event)} {sources : List (Option ℕ)} {orders : 
       }
 
   -- and the orders of a graph fit one by one.
-  pub fits_from_formed : Formed events sources orders → (l : ℕ) → l < 4 → OrderFits events (get_or orders l []) l
+  fits_from_formed : Formed events sources orders → (l : ℕ) → l < 4 → OrderFits events (get_or orders l []) l
   fits_from_formed f l h =
       record {
         begins = f.begins l h;
@@ -30,3 +25,6 @@ module _ {events : List (Option Event)} {sources : List (Option ℕ)} {orders : 
         all = f.all l;
         once = λ i s. f.once l i (h, s);
       }
+
+  pub formed_decided : ((r : ℕ) → r < 32 → source_fits events sources r ≡ true) → (b : Bool) → Decides b ((l : ℕ) → l < 4 → OrderFits events (get_or orders l []) l) → Decides b (Formed events sources orders)
+  formed_decided rf b d = (λ e. formed_from_fits rf (d.0 e), λ f. d.1 (fits_from_formed f))

@@ -1,7 +1,7 @@
 //! Execution graphs. Every graph that exists has sources and orders that fit its events.
-ghost use Rattle.std.specs.Prelude.{◌≡◌, ℕ, ◌<◌, true, map, length};
+ghost use Rattle.std.specs.Prelude.{◌≡◌, map, length};
 ghost use Rattle.orders.specs.Orders.{members};
-ghost use Rattle.graph.specs.Formed.{source_fits, Begins, OnlyWrites, AllWrites, EachOnce};
+ghost use Rattle.graph.specs.Formed.{Formed};
 
 use events::event::*;
 use orders::order::*;
@@ -11,12 +11,8 @@ use orders::order::*;
 pub struct Graph {
     pub(crate) events: [Option<Event>; STATEMENTS],
     pub(crate) sources: [Option<u8>; STATEMENTS],
-    pub(crate) mo: [Order; 4],
-    ghost rf: { (r : ℕ) → r < 32 → source_fits events sources r ≡ true },
-    ghost begins: { Begins (map members mo) },
-    ghost only: { OnlyWrites events (map members mo) },
-    ghost all: { AllWrites events (map members mo) },
-    ghost once: { EachOnce (map members mo) },
+    pub(crate) mo: [Order; LOCATIONS],
+    ghost formed: { Formed events sources (map members mo) },
     ghost rooms: { length events ≡ 32 },
     ghost places: { length sources ≡ 32 },
     ghost locations: { length mo ≡ 4 },

@@ -17,12 +17,17 @@ impl Graph {
     pub fn new(
         events: [Option<Event>; STATEMENTS],
         sources: [Option<u8>; STATEMENTS],
-        mo: [Order; 4],
+        mo: [Order; LOCATIONS],
     ) -> Option<Graph>
         ensures test { Decides (is_some result) (Formed events sources (map members mo)) }
         ensures parts { elim result [ Some g ↦ (g.events ≡ events) × (g.sources ≡ sources) × (g.mo ≡ mo) | None ↦ Unit {0} ] }
     {
-        if sources_fit(&events, &sources) && orders_fit(&events, &mo) {
+        let parts = Parts {
+            events: &events,
+            sources: &sources,
+            mo: &mo,
+        };
+        if parts.fit() {
             Some(Graph {
                 events,
                 sources,
@@ -33,49 +38,58 @@ impl Graph {
         }
     }
 
+    /// Its parts.
+    fn parts(&self) -> Parts<'_>
+        ensures events { result.events.now ≡ self.now.events }
+        ensures sources { result.sources.now ≡ self.now.sources }
+        ensures mo { result.mo.now ≡ self.now.mo }
+    {
+        Parts {
+            events: &self.events,
+            sources: &self.sources,
+            mo: &self.mo,
+        }
+    }
+
     /// The event of a number: of a statement, or an initial write.
     pub fn event(&self, e: usize) -> Option<Event>
         ensures { result ≡ event_at self.now.events e }
     {
-        event_at(&self.events, e)
+        self.parts().event(e)
     }
 
     /// What the event of a number reads.
     pub fn read(&self, e: usize) -> Option<Access>
         ensures { result ≡ read_at self.now.events e }
     {
-        read_at(&self.events, e)
+        self.parts().read(e)
     }
 
     /// What the event of a number writes.
     pub fn written(&self, e: usize) -> Option<Access>
         ensures { result ≡ written_at self.now.events e }
     {
-        written_at(&self.events, e)
+        self.parts().written(e)
     }
 
     /// The source of a reading event.
     pub fn source(&self, e: usize) -> Option<u8>
         ensures { result ≡ slice_index_or self.now.sources e None }
     {
-        if e < STATEMENTS {
-            self.sources[e]
-        } else {
-            None
-        }
+        self.parts().source(e)
     }
 
     /// The order of the writes of a location.
     pub fn order(&self, location: Location) -> Order
         ensures { members result ≡ slice_index_or (map members self.now.mo) (location_index location) [] }
     {
-        self.mo[location.index()]
+        self.parts().order(location)
     }
 
     /// The place of an event in the order of a location, given by its number; the length of that order where it does not stand in it.
     pub fn position(&self, l: usize, e: usize) -> usize
         ensures { result ≡ position ((view self.now).mo l) e }
     {
-        if l < 4 { self.mo[l].position(e) } else { 0 }
+        self.mo.get(l).map_or(0, |order| position(order, e))
     }
 }

@@ -3,4 +3,5 @@
 
 pub mod numbering;
 pub mod spelling;
+pub mod strengths;
 pub mod syntax;

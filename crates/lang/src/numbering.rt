@@ -10,12 +10,7 @@ impl Location {
         ensures value { result ≡ location_index self }
         ensures bound { result < 4 }
     {
-        match self {
-            Location::X => 0,
-            Location::Y => 1,
-            Location::Z => 2,
-            Location::W => 3,
-        }
+        self as usize
     }
 }
 
@@ -25,11 +20,6 @@ impl Register {
         ensures value { result ≡ register_index self }
         ensures bound { result < 4 }
     {
-        match self {
-            Register::R0 => 0,
-            Register::R1 => 1,
-            Register::R2 => 2,
-            Register::R3 => 3,
-        }
+        self as usize
     }
 }

@@ -13,19 +13,19 @@ pub enum Mode {
 /// A shared memory cell.
 #[derive(Clone, Copy, PartialEq, Eq)]
 pub enum Location {
-    X,
-    Y,
-    Z,
-    W,
+    X = 0,
+    Y = 1,
+    Z = 2,
+    W = 3,
 }
 
 /// A register; each thread has four of its own, which start at 0.
 #[derive(Clone, Copy, PartialEq, Eq)]
 pub enum Register {
-    R0,
-    R1,
-    R2,
-    R3,
+    R0 = 0,
+    R1 = 1,
+    R2 = 2,
+    R3 = 3,
 }
 
 /// What a statement stores or adds: a register's value or a number.
@@ -68,4 +68,9 @@ pub enum Statement {
     Fence {
         mode: Mode,
     },
+}
+
+impl Location {
+    /// The locations, in the order of their numbers.
+    pub const ALL: [Location; 4] = [Location::X, Location::Y, Location::Z, Location::W];
 }

@@ -10,6 +10,7 @@ use mapping::interface::*;
 use mapping::kinds::store_at;
 use mapping::placement::*;
 use programs::threads::*;
+use std::array;
 
 /// The mapping below with locked stores in place of stores with a fence after them.
 #[derive(Clone, Copy)]
@@ -21,9 +22,9 @@ fn swap(store: bool, placement: Placement) -> Placement
 {
     if store && !placement.locked && placement.after {
         Placement {
-            before: placement.before,
             after: false,
             locked: true,
+            ..placement
         }
     } else {
         placement
@@ -34,11 +35,7 @@ fn swap(store: bool, placement: Placement) -> Placement
 pub fn exchanged_plan(thread: &Thread, below: Plan) -> Plan
     ensures { (f : ℕ → Placement) → below ≡ map f (range_with_len 0 8) → result ≡ map (exchanged_at f (body thread.now)) (range_with_len 0 8) }
 {
-    let mut plan = [Placement::NONE; MAX_STATEMENTS];
-    for at in 0..MAX_STATEMENTS {
-        plan[at] = swap(store_at(thread, at), below[at]);
-    }
-    plan
+    array::from_fn(|at| swap(store_at(thread, at), planned(&below, at)))
 }
 
 impl<M: Mapping> Mapping for Exchange<M> {

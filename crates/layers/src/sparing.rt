@@ -50,8 +50,8 @@ pub fn spared_plan(thread: &Thread, below: Plan) -> Plan
 {
     let mut plan = [Placement::NONE; MAX_STATEMENTS];
     let mut pending = false;
-    for at in 0..MAX_STATEMENTS {
-        let (kept, left) = pass(thread.statement(at), below[at], pending);
+    for (at, placement) in below.iter().enumerate() {
+        let (kept, left) = pass(thread.get(at), *placement, pending);
         plan[at] = kept;
         pending = left;
     }

@@ -1,15 +1,16 @@
 //! Reads a program text from standard input and prints its x86 listing under the mapping and the layers that the words name.
 #![tactic(auto)]
 
-use anyhow::anyhow;
-use compiler::code::Code;
+use anyhow::bail;
+use compiler::code::*;
 use compiler::compile;
 use lang::syntax::*;
 use mapping::interface::*;
-use mapping::placement::Placement;
+use mapping::placement::*;
 use piles::pile::*;
 use programs::threads::*;
 use std::process::ExitCode;
+use std::slice::Iter;
 use std::{env, io};
 
 const HELP: &str = "\
@@ -27,115 +28,89 @@ its threads, with the statement that each instruction came from behind `#`.
 Layers are applied in the order given. A text that is no program is answered
 by `refused N pass P place Q`.";
 
-/// What the words on the command line ask for.
-#[derive(Drop)]
-enum Request {
-    Help,
-    List(Pile),
-}
-
 /// Takes one word more: a mapping may come first, layers after it.
 fn take_word(pile: &mut Pile, first: bool, word: &str) -> anyhow::Result<()> {
-    if first && let Some(base) = Base::named(word) {
+    if first && let Ok(base) = word.parse() {
         pile.base = base;
         return Ok(());
     }
-    match Layer::named(word) {
-        Some(layer) => {
-            pile.layers.push(layer)?;
-            Ok(())
-        }
-        None => Err(anyhow!(
-            "accepted: [trailing|locked|leading] [sparing|exchange]..., or --help"
-        )),
-    }
+    let Ok(layer) = word.parse() else {
+        bail!("accepted: [trailing|locked|leading] [sparing|exchange]..., or --help");
+    };
+    pile.layers.push(layer)?;
+    Ok(())
 }
 
-/// The mapping and the layers that the words name.
-fn asked(rt: &HostRuntime) -> anyhow::Result<Request> {
+/// The mapping and the layers that the words name; none where they ask for help.
+fn asked(rt: &HostRuntime) -> anyhow::Result<Option<Pile>> {
     let mut pile = Pile {
         base: Base::Trailing,
         layers: Vec::new(rt.alloc()),
     };
     for (place, word) in env::args(rt)?.skip(1).enumerate() {
         if word.as_str() == "--help" {
-            return Ok(Request::Help);
+            return Ok(None);
         }
         take_word(&mut pile, place == 0, word.as_str())?;
     }
-    Ok(Request::List(pile))
+    Ok(Some(pile))
 }
 
-/// The next instruction of a thread, on a line of its own, with the statement that it came from.
-fn print_instruction(rt: &HostRuntime, code: &Code, thread: usize, at: usize) -> io::Result<()> {
-    match code.instruction(thread, at) {
+/// The next instruction, which begins a line.
+fn print_next(rt: &HostRuntime, code: &mut Iter<'_, Instruction>) -> io::Result<()> {
+    match code.next() {
         Some(instruction) => print!(rt; "  {instruction}"),
         None => Ok(()),
     }
 }
 
-/// Whether a statement has an instruction of its own.
+/// If a statement has no instruction of its own.
 fn is_silent(statement: Statement) -> bool {
-    match statement {
-        Statement::Fence { mode } => mode != Mode::SeqCst,
-        _ => false,
-    }
+    matches!(statement, Statement::Fence { mode } if mode != Mode::SeqCst)
 }
 
-/// The lines of a statement, whose instructions begin at an index; where the next statement's begin.
+/// The lines of a statement, whose instructions come next.
 fn print_statement(
     rt: &HostRuntime,
-    code: &Code,
-    thread: usize,
-    start: usize,
+    code: &mut Iter<'_, Instruction>,
     placement: Placement,
     statement: Statement,
-) -> io::Result<usize> {
-    let mut at = start;
+) -> io::Result<()> {
     if placement.before {
-        print_instruction(rt, code, thread, at)?;
+        print_next(rt, code)?;
         println!(rt; "")?;
-        at = at.saturating_add(1);
     }
-    if is_silent(statement) {
-        println!(rt; "  # {statement}")?;
-    } else {
-        print_instruction(rt, code, thread, at)?;
-        println!(rt; "  # {statement}")?;
-        at = at.saturating_add(1);
+    if !is_silent(statement) {
+        print_next(rt, code)?;
     }
+    println!(rt; "  # {statement}")?;
     if placement.after {
-        print_instruction(rt, code, thread, at)?;
+        print_next(rt, code)?;
         println!(rt; "")?;
-        at = at.saturating_add(1);
     }
-    Ok(at)
+    Ok(())
 }
 
 fn print_thread(
     rt: &HostRuntime,
-    pile: &Pile,
-    code: &Code,
     number: usize,
     thread: &Thread,
+    plan: &Plan,
+    code: &ThreadCode,
 ) -> io::Result<()> {
     println!(rt; "thread {number}")?;
-    let plan = pile.plan(thread);
-    let mut at = 0;
-    for place in 0..thread.len() {
-        if let Some(statement) = thread.statement(place) {
-            at = print_statement(rt, code, number, at, plan[place], statement)?;
-        }
+    let mut rest = code.as_slice().iter();
+    for (statement, placement) in thread.as_slice().iter().zip(plan) {
+        print_statement(rt, &mut rest, *placement, *statement)?;
     }
     Ok(())
 }
 
 fn print_program(rt: &HostRuntime, pile: &Pile, program: &Program) -> io::Result<()> {
     let code = compile(pile, program);
-    for number in 0..program.len() {
-        if let Some(thread) = program.thread(number) {
-            print_thread(rt, pile, &code, number, &thread)?;
-        }
+    let threads = program.as_slice().iter().zip(code.threads());
+    for (number, (thread, code)) in threads.enumerate() {
+        print_thread(rt, number, thread, &pile.plan(thread), code)?;
     }
     Ok(())
 }
@@ -150,8 +125,8 @@ fn list(rt: &HostRuntime, pile: &Pile) -> io::Result<()> {
 
 fn run(rt: &HostRuntime) -> anyhow::Result<()> {
     match asked(rt)? {
-        Request::Help => println!(rt; "{HELP}")?,
-        Request::List(pile) => list(rt, &pile)?,
+        Some(pile) => list(rt, &pile)?,
+        None => println!(rt; "{HELP}")?,
     }
     Ok(())
 }

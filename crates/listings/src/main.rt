@@ -2,8 +2,8 @@
 //! and prints the instructions of each thread on a line. The lines to compare with came from a script that the compiler's author wrote.
 #![tactic(auto)]
 
-use anyhow::anyhow;
-use compiler::code::Code;
+use anyhow::Context;
+use compiler::code::*;
 use compiler::compile;
 use layers::exchange::*;
 use layers::sparing::*;
@@ -13,21 +13,19 @@ use programs::threads::Program;
 use std::{fs, io};
 use watchful::Watchful;
 
-fn print_thread(rt: &HostRuntime, code: &Code, thread: usize) -> io::Result<()> {
-    print!(rt; "{thread}:")?;
-    for at in 0..code.instructions(thread) {
+fn print_thread(rt: &HostRuntime, number: usize, code: &ThreadCode) -> io::Result<()> {
+    print!(rt; "{number}:")?;
+    for (at, instruction) in code.as_slice().iter().enumerate() {
         let parted = if at == 0 { " " } else { "; " };
-        if let Some(instruction) = code.instruction(thread, at) {
-            print!(rt; "{parted}{instruction}")?;
-        }
+        print!(rt; "{parted}{instruction}")?;
     }
     println!(rt; "")
 }
 
 fn print_code<M: Mapping>(rt: &HostRuntime, mapping: &M, program: &Program) -> io::Result<()> {
     let code = compile(mapping, program);
-    for thread in 0..program.len() {
-        print_thread(rt, &code, thread)?;
+    for (number, code) in code.threads().iter().enumerate() {
+        print_thread(rt, number, code)?;
     }
     Ok(())
 }
@@ -62,10 +60,8 @@ fn print_program(rt: &HostRuntime, name: &str, program: &Program) -> io::Result<
 fn print_text(rt: &HostRuntime, name: &str) -> anyhow::Result<()> {
     let path = format!(in rt.alloc(); "{name}.litmus")?;
     let text = fs::read(rt, path.as_str())?;
-    match reader::read(text.as_slice()) {
-        Ok(program) => print_program(rt, name, &program)?,
-        Err(_) => return Err(anyhow!("a text in data/ is no program")),
-    }
+    let program = reader::read(text.as_slice()).context("a text in data/ is no program")?;
+    print_program(rt, name, &program)?;
     Ok(())
 }
 

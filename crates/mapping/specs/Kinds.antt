@@ -1,13 +1,9 @@
 -- The kinds of statements that a mapping looks at.
 use Rattle.std.specs.Prelude.{ℕ, Bool, true, false, List, Some, None}
 use Rattle.std.specs.List.{slice_get}
-use Rattle.lang.specs.declared.syntax.Mode.{Mode}
-use Rattle.lang.specs.declared.syntax.Mode.TheVariants.{Relaxed, Acquire, Release, AcquireRelease, SeqCst}
+use Rattle.lang.specs.Strengths.{is_sc}
 use Rattle.lang.specs.declared.syntax.Statement.{Statement}
 use Rattle.lang.specs.declared.syntax.Statement.TheVariants.{Load, Store, Exchange, Add, Fence}
-
-abbrev pub is_sc : Mode → Bool
-is_sc m = elim m [ Relaxed ↦ false | Acquire ↦ false | Release ↦ false | AcquireRelease ↦ false | SeqCst ↦ true ]
 
 abbrev pub is_store : Statement → Bool
 is_store (Load r l m) = false

@@ -8,6 +8,7 @@ ghost use Rattle.mapping.specs.Rule.{nothing, FenceRule, EndsWithThread, LocksSt
 
 use super::placement::*;
 use programs::threads::*;
+use std::array;
 
 /// Where fences stand and which stores are locked, by a thread's statements and a place alone.
 pub trait Mapping {
@@ -22,11 +23,7 @@ pub trait Mapping {
     fn plan(&self, thread: &Thread) -> Plan
         ensures { result ≡ map (meaning self.now (body thread.now)) (range_with_len 0 8) }
     {
-        let mut plan = [Placement::NONE; MAX_STATEMENTS];
-        for at in 0..MAX_STATEMENTS {
-            plan[at] = self.place(thread, at);
-        }
-        plan
+        array::from_fn(|at| self.place(thread, at))
     }
 
     /// Between an sc `st` and a later sc `ld` of a thread stands a flush.
@@ -43,8 +40,5 @@ pub trait Mapping {
 pub fn planned(plan: &Plan, at: usize) -> Placement
     ensures { result ≡ slice_index_or plan.now at nothing }
 {
-    match plan.get(at) {
-        Some(placement) => *placement,
-        None => Placement::NONE,
-    }
+    plan.get(at).copied().unwrap_or(Placement::NONE)
 }

@@ -10,17 +10,14 @@ use programs::threads::Thread;
 pub fn store_at(thread: &Thread, at: usize) -> bool
     ensures { result ≡ holds_at is_store (body thread.now) at }
 {
-    match thread.statement(at) {
-        Some(Statement::Store { .. }) => true,
-        _ => false,
-    }
+    matches!(thread.get(at), Some(Statement::Store { .. }))
 }
 
 /// If an sc `st` stands at a place.
 pub fn sc_store_at(thread: &Thread, at: usize) -> bool
     ensures { result ≡ holds_at is_sc_store (body thread.now) at }
 {
-    match thread.statement(at) {
+    match thread.get(at) {
         Some(Statement::Store { mode, .. }) => mode == Mode::SeqCst,
         _ => false,
     }
@@ -30,7 +27,7 @@ pub fn sc_store_at(thread: &Thread, at: usize) -> bool
 pub fn sc_load_at(thread: &Thread, at: usize) -> bool
     ensures { result ≡ holds_at is_sc_load (body thread.now) at }
 {
-    match thread.statement(at) {
+    match thread.get(at) {
         Some(Statement::Load { mode, .. }) => mode == Mode::SeqCst,
         _ => false,
     }

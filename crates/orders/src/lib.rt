@@ -2,4 +2,3 @@
 #![tactic(auto)]
 
 pub mod order;
-pub mod parts;

@@ -1,14 +1,31 @@
-//! The writes of a location, in order: a fixed array, of which the front is used.
-ghost use Rattle.std.specs.Prelude.{◌≡◌, ◌≤◌, length};
+//! The writes of a location, in order.
+ghost use Rattle.std.specs.Prelude.{◌≡◌, ◌≤◌, ◌==◌};
+ghost use Rattle.std.specs.List.{position as place};
+ghost use Rattle.orders.specs.Orders.{members, position};
+
+use programs::bounded::*;
+use programs::parts::*;
 
 /// The most writes of a location: one for each statement, and the initial one.
 pub const MAX_WRITES: usize = 33;
 
-/// At most 33 event numbers, in order; the entries from `len` on are unused.
-#[derive(Clone, Copy)]
-pub struct Order {
-    pub(crate) writes: [u8; MAX_WRITES],
-    pub(crate) len: usize,
-    ghost few: { len ≤ 33 },
-    ghost room: { length writes ≡ 33 },
+/// At most 33 event numbers, in order.
+pub type Order = Bounded<u8, 0, MAX_WRITES>;
+
+/// The place of a write in an order, if it is one of them.
+pub fn place(order: &Order, write: usize) -> Option<usize>
+    ensures { result ≡ place (λ x. x == write) (members order.now) }
+{
+    order
+        .as_slice()
+        .iter()
+        .position(|member| usize::from(*member) == write)
+}
+
+/// The place of a write in an order; the number of writes where it is not one of them.
+pub fn position(order: &Order, write: usize) -> usize
+    ensures value { result ≡ position (members order.now) write }
+    ensures bound { result ≤ 33 }
+{
+    place(order, write).unwrap_or(order.len())
 }

@@ -1,5 +1,5 @@
 pub mod Comparing
-pub mod Deciding
+pub mod Events
 pub mod Final
 pub mod Flow
 pub mod Limits

@@ -1,4 +1,4 @@
-//! Outcomes read, and their order: by the first value that differs.
+//! Outcomes read and compared.
 ghost use Rattle.std.specs.Prelude.{◌≡◌};
 ghost use Rattle.std.specs.Ordering.{MatchOrdering};
 ghost use Rattle.outcomes.specs.Outcomes.{Precedes};
@@ -18,14 +18,6 @@ impl Outcome {
     pub fn compare(&self, other: &Outcome) -> Ordering
         ensures { MatchOrdering result (Precedes self.now.values other.now.values) (self.now.values ≡ other.now.values) (Precedes other.now.values self.now.values) }
     {
-        for at in 0..VALUES {
-            if self.values[at] < other.values[at] {
-                return Ordering::Less;
-            }
-            if self.values[at] > other.values[at] {
-                return Ordering::Greater;
-            }
-        }
-        Ordering::Equal
+        self.cmp(other)
     }
 }

@@ -1,39 +1,41 @@
 //! The words for mappings and layers.
-ghost use Rattle.std.specs.Prelude.{◌≡◌, MatchOption, ◌≢◌};
-ghost use Rattle.piles.specs.declared.pile.Base.{Base};
-ghost use Rattle.piles.specs.declared.pile.Layer.{Layer};
 ghost use Rattle.piles.specs.Piled.{base_name, layer_name};
+ghost use Rattle.piles.specs.Names.{Reads};
 
 use super::pile::*;
+use std::str::FromStr;
 
-impl Base {
-    /// The published mapping of this name.
-    pub fn named(word: &str) -> Option<Base>
-        ensures { MatchOption result ((b : Base) → word.now ≢ base_name b) (λ b. word.now ≡ base_name b) }
-    {
-        if word == "trailing" {
-            Some(Base::Trailing)
-        } else if word == "locked" {
-            Some(Base::Locked)
-        } else if word == "leading" {
-            Some(Base::Leading)
-        } else {
-            None
+/// A word that names nothing of the kind asked for.
+#[derive(Clone, Copy, PartialEq, Eq)]
+pub struct UnknownName;
+
+/// The published mapping of a name.
+impl FromStr for Base {
+    type Err = UnknownName;
+
+    ghost from_str_gives = { Reads base_name };
+
+    fn from_str(word: &str) -> Result<Base, UnknownName> {
+        match word {
+            "trailing" => Ok(Base::Trailing),
+            "locked" => Ok(Base::Locked),
+            "leading" => Ok(Base::Leading),
+            _ => Err(UnknownName),
         }
     }
 }
 
-impl Layer {
-    /// The layer of this name.
-    pub fn named(word: &str) -> Option<Layer>
-        ensures { MatchOption result ((l : Layer) → word.now ≢ layer_name l) (λ l. word.now ≡ layer_name l) }
-    {
-        if word == "sparing" {
-            Some(Layer::Sparing)
-        } else if word == "exchange" {
-            Some(Layer::Exchange)
-        } else {
-            None
+/// The layer of a name.
+impl FromStr for Layer {
+    type Err = UnknownName;
+
+    ghost from_str_gives = { Reads layer_name };
+
+    fn from_str(word: &str) -> Result<Layer, UnknownName> {
+        match word {
+            "sparing" => Ok(Layer::Sparing),
+            "exchange" => Ok(Layer::Exchange),
+            _ => Err(UnknownName),
         }
     }
 }

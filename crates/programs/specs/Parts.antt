@@ -1,17 +1,25 @@
 -- A program as lists of statements, and how its parts are numbered.
-use Rattle.std.specs.Prelude.{ℕ, ◌+◌, ◌*◌, List, map, length, take, Some, None, Option}
+use Rattle.std.specs.Prelude.{ℕ, ◌+◌, ◌*◌, List, map, length, Some, None, Option}
 use Rattle.std.specs.List.{slice_get}
 use Rattle.lang.specs.declared.syntax.Statement.{Statement}
-use Rattle.programs.specs.declared.threads.Thread.{Thread}
-use Rattle.programs.specs.declared.threads.Program.{Program}
+use Rattle.programs.specs.declared.bounded.Bounded.{Bounded}
+use Rattle.programs.specs.Entries.{entries}
+
+-- 1 to 8 statements.
+abbrev pub Thread : Type 0
+Thread = Bounded Statement 1 8
+
+-- 1 to 4 threads.
+abbrev pub Program : Type 0
+Program = Bounded Thread 1 4
 
 -- The statements of a thread, in order.
 abbrev pub body : Thread → List Statement
-body t = take t.len t.statements
+body t = entries t
 
 -- The threads of a program, in order.
 abbrev pub bodies : Program → List (List Statement)
-bodies p = map body (take p.len p.threads)
+bodies p = map body (entries p)
 
 -- The statement at a thread and a place, both counted from 0.
 abbrev pub statement_at : List (List Statement) → ℕ → ℕ → Option Statement

@@ -1,5 +1,6 @@
-//! Threads and programs, with their limits as invariants of the types.
+//! Threads and programs, with their limits as invariants of one type.
 #![tactic(auto)]
 
+pub mod bounded;
 pub mod parts;
 pub mod threads;

@@ -1,137 +1,93 @@
-//! Threads and programs, made and read.
-ghost use Rattle.std.specs.Prelude.{◌≡◌, ◌+◌, ◌<◌, ◌≤◌, false, ltb, [], ◌∷◌, ◌++◌, length, is_ok, if◌then◌else◌, Some, None, nat_lt};
+//! Lists of limited length, made and read.
+ghost use Rattle.std.specs.Prelude.{◌≡◌, ◌-◌, ◌<◌, ◌≤◌, false, [], ◌∷◌, ◌++◌, length, is_ok, if◌then◌else◌, Some, None, nat_le, nat_lt};
 ghost use Rattle.std.specs.List.{slice_get};
 ghost use Rattle.std.specs.Option.{option_map};
-ghost use Rattle.programs.specs.Parts.{body, bodies, statement_at, statement_count, event_number};
+ghost use Rattle.programs.specs.Entries.{entries};
 
-use super::threads::*;
-use lang::syntax::Statement;
+use super::bounded::*;
 
 /// There is no room for one more.
 #[derive(Clone, Copy, PartialEq, Eq)]
 pub struct Full;
 
-impl Thread {
-    /// A thread of one statement.
-    pub fn new(first: Statement) -> Thread
-        ensures { body result ≡ first ∷ [] }
+impl<T: Copy, const MOST: usize> Bounded<T, 0, MOST> {
+    /// No entries; the blank stands in the unused cells.
+    pub fn empty(blank: T) -> Self
+        ensures { entries result ≡ [] }
     {
-        Thread {
-            statements: [first; MAX_STATEMENTS],
+        Bounded {
+            cells: [blank; MOST],
+            len: 0,
+        }
+    }
+
+    /// The entries given, in that order; none where they are too many.
+    pub fn of(blank: T, given: &[T]) -> Option<Self>
+        ensures { option_map entries result ≡ (if nat_le (length given.now) MOST then Some given.now else None) }
+    {
+        let mut list = Bounded::empty(blank);
+        for entry in given {
+            list.push(*entry).ok()?;
+        }
+        Some(list)
+    }
+}
+
+impl<T: Copy, const MOST: usize> Bounded<T, 1, MOST> {
+    /// One entry.
+    pub fn new(first: T) -> Self
+        requires { 1 ≤ MOST }
+        ensures { entries result ≡ first ∷ [] }
+    {
+        Bounded {
+            cells: [first; MOST],
             len: 1,
-        }
-    }
-
-    /// Adds a statement at the end; a thread of eight takes no more and stays as it is.
-    pub fn push(&mut self, statement: Statement) -> Result<(), Full>
-        ensures test { is_ok result ≡ nat_lt (length (body self.old)) 8 }
-        ensures after { body self.new ≡ (if is_ok result then body self.old ++ (statement ∷ []) else body self.old) }
-        ensures same { is_ok result ≡ false → self.new ≡ self.old }
-    {
-        if self.len == MAX_STATEMENTS {
-            return Err(Full);
-        }
-        self.statements[self.len] = statement;
-        self.len += 1;
-        Ok(())
-    }
-
-    /// The number of statements, 1 to 8.
-    pub fn len(&self) -> usize
-        ensures value { result ≡ length (body self.now) }
-        ensures low_bound { 0 < result }
-        ensures high_bound { result ≤ 8 }
-    {
-        self.len
-    }
-
-    /// The statement at a place, if the thread has one there.
-    pub fn statement(&self, place: usize) -> Option<Statement>
-        ensures { result ≡ slice_get (body self.now) place }
-    {
-        if place < self.len {
-            Some(self.statements[place])
-        } else {
-            None
         }
     }
 }
 
-impl Program {
-    /// A program of one thread.
-    pub fn new(first: Thread) -> Program
-        ensures { bodies result ≡ body first ∷ [] }
-    {
-        Program {
-            threads: [first; MAX_THREADS],
-            len: 1,
-        }
-    }
-
-    /// Adds a thread at the end; a program of four takes no more and stays as it is.
-    pub fn push(&mut self, thread: Thread) -> Result<(), Full>
-        ensures test { is_ok result ≡ nat_lt (length (bodies self.old)) 4 }
-        ensures after { bodies self.new ≡ (if is_ok result then bodies self.old ++ (body thread ∷ []) else bodies self.old) }
+impl<T: Copy, const LEAST: usize, const MOST: usize> Bounded<T, LEAST, MOST> {
+    /// Adds an entry at the end; a full list takes no more and stays as it is.
+    pub fn push(&mut self, entry: T) -> Result<(), Full>
+        ensures test { is_ok result ≡ nat_lt (length (entries self.old)) MOST }
+        ensures after { entries self.new ≡ (if is_ok result then entries self.old ++ (entry ∷ []) else entries self.old) }
         ensures same { is_ok result ≡ false → self.new ≡ self.old }
     {
-        if self.len == MAX_THREADS {
+        if self.len == MOST {
             return Err(Full);
         }
-        self.threads[self.len] = thread;
+        self.cells[self.len] = entry;
         self.len += 1;
         Ok(())
     }
 
-    /// The number of threads, 1 to 4.
+    /// The entries, in order.
+    pub fn as_slice(&self) -> &[T]
+        ensures { result.now ≡ entries self.now }
+    {
+        &self.cells[..self.len]
+    }
+
+    /// The number of entries.
     pub fn len(&self) -> usize
-        ensures value { result ≡ length (bodies self.now) }
-        ensures low_bound { 0 < result }
-        ensures high_bound { result ≤ 4 }
+        ensures value { result ≡ length (entries self.now) }
+        ensures low_bound { LEAST ≤ result }
+        ensures high_bound { result ≤ MOST }
     {
         self.len
     }
 
-    /// A thread of the program, if there is one of that number.
-    pub fn thread(&self, thread: usize) -> Option<Thread>
-        ensures { option_map body result ≡ slice_get (bodies self.now) thread }
+    /// The entry at a place, if there is one.
+    pub fn get(&self, place: usize) -> Option<T>
+        ensures { result ≡ slice_get (entries self.now) place }
     {
-        if thread < self.len {
-            Some(self.threads[thread])
-        } else {
-            None
-        }
+        self.as_slice().get(place).copied()
     }
 
-    /// The number of statements of a thread; 0 where there is no such thread.
-    pub fn statements(&self, thread: usize) -> usize
-        ensures value { result ≡ statement_count (bodies self.now) thread }
-        ensures bound { result ≤ 8 }
+    /// The last entry, if there is one.
+    pub fn last(&self) -> Option<T>
+        ensures { result ≡ slice_get (entries self.now) (length (entries self.now) - 1) }
     {
-        if thread < self.len {
-            self.threads[thread].len()
-        } else {
-            0
-        }
-    }
-
-    /// The statement at a thread and a place, if there is one.
-    pub fn statement(&self, thread: usize, place: usize) -> Option<Statement>
-        ensures { result ≡ statement_at (bodies self.now) thread place }
-    {
-        if thread >= self.len {
-            return None;
-        }
-        self.threads[thread].statement(place)
-    }
-
-    /// The number of the event at a thread and a place, 8 × thread + place, if there is a statement.
-    pub fn event(&self, thread: usize, place: usize) -> Option<usize>
-        ensures { result ≡ (if ltb place (statement_count (bodies self.now) thread) then Some (event_number thread place) else None) }
-    {
-        if thread < self.len && place < self.statements(thread) {
-            Some(MAX_STATEMENTS * thread + place)
-        } else {
-            None
-        }
+        self.as_slice().last().copied()
     }
 }

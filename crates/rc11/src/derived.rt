@@ -1,130 +1,93 @@
-//! The relations of RC11, each made from those before it.
+//! The relations that are made with hb and eco: scb and psc.
 ghost use Rattle.std.specs.Prelude.{◌≡◌};
 ghost use Rattle.graph.specs.Execution.{view};
-ghost use Rattle.consistency.specs.Computed.{sb_rows, rf_rows, mo_rows, rb_rows, eco_rows, sequence_rows, releases_rows, acquires_rows, sw_rows, hb_rows, scb_rows, psc_base_rows, psc_fence_rows, psc_rows};
+ghost use Rattle.consistency.specs.Computed.{hb_rows, eco_rows, scb_rows, unshared_rows, psc_base_rows, psc_fence_rows, psc_rows, keeps_2, keeps_4};
 
-use bases::collect::*;
-use bases::kinds::*;
-use graph::graph::Graph;
+use super::base::*;
+use bases::pairs;
+use bases::sets::*;
 use relations::closure::*;
+use relations::questions::*;
 use relations::rows::*;
 
-/// rb: from a read to the writes after its source, but not to itself.
-pub(crate) fn reads_before(graph: &Graph, rf: &Relation, mo: &Relation) -> Relation
-    requires rf_is { rf.now.rows ≡ rf_rows (view graph.now) }
-    requires mo_is { mo.now.rows ≡ mo_rows (view graph.now) }
-    ensures { result.rows ≡ rb_rows (view graph.now) }
-{
-    rf.inverse().then(mo).common(&relation(graph, Pairs::Apart))
+/// The base with its hb and eco.
+#[derive(Clone, Copy)]
+pub(crate) struct Derived<'g> {
+    base: Base<'g>,
+    hb: Relation,
+    eco: Relation,
+    ghost hb_is: { hb.rows ≡ hb_rows (view base.graph.now) },
+    ghost eco_is: { eco.rows ≡ eco_rows (view base.graph.now) },
 }
 
-/// eco: one or more steps of rf, mo or rb.
-pub(crate) fn communication(graph: &Graph, rf: &Relation, mo: &Relation, rb: &Relation) -> Relation
-    requires rf_is { rf.now.rows ≡ rf_rows (view graph.now) }
-    requires mo_is { mo.now.rows ≡ mo_rows (view graph.now) }
-    requires rb_is { rb.now.rows ≡ rb_rows (view graph.now) }
-    ensures { result.rows ≡ eco_rows (view graph.now) }
-{
-    rf.union(&mo.union(rb)).closure()
-}
+impl<'g> Derived<'g> {
+    /// Of a base.
+    pub(crate) fn of(base: Base<'g>) -> Derived<'g>
+        ensures { result.base.graph.now ≡ base.entry.graph.now }
+    {
+        Derived {
+            base,
+            hb: base.happens(),
+            eco: base.communication(),
+        }
+    }
 
-/// Release sequences: from a write to itself and to each update that reads from a member.
-fn sequences(graph: &Graph, rf: &Relation) -> Relation
-    requires { rf.now.rows ≡ rf_rows (view graph.now) }
-    ensures { result.rows ≡ sequence_rows (view graph.now) }
-{
-    let writes = events(graph, Property::Writes);
-    let members = rf.to(events(graph, Property::Update)).closure();
-    Relation::identity(writes).union(&members.from(writes))
-}
+    /// scb: sb; sb, hb, sb where neither sb shares a location; hb at one location; mo; rb.
+    #[tactic(auto, unfolding(consistency::specs::Computed::scb_rows, consistency::specs::Computed::unshared_rows))]
+    fn sc_before(&self) -> Relation
+        ensures { result.rows ≡ scb_rows (view self.now.base.graph.now) }
+    {
+        let Base { graph, sb, mo, .. } = &self.base;
+        let sharing = pairs::sharing(graph);
+        let unshared = sb.without(&sharing);
+        let around = unshared.then(&self.hb.then(&unshared));
+        let shared = self.hb.common(&sharing);
+        sb.union(&around.union(&shared.union(&mo.union(&self.base.reads_before()))))
+    }
 
-/// From a release write to itself, and from a release fence to what is sb-after it.
-fn released(graph: &Graph, sb: &Relation) -> Relation
-    requires { sb.now.rows ≡ sb_rows (view graph.now) }
-    ensures { result.rows ≡ releases_rows (view graph.now) }
-{
-    let itself = Relation::identity(events(graph, Property::ReleaseWrite));
-    itself.union(&sb.from(events(graph, Property::ReleaseFence)))
-}
+    /// psc, first form: scb between sc events, or sc fences before and after.
+    #[tactic(auto, unfolding(consistency::specs::Computed::psc_base_rows))]
+    fn partial_sc(&self) -> Relation
+        ensures { result.rows ≡ psc_base_rows (view self.now.base.graph.now) }
+    {
+        let itself = Relation::identity(sc_events(self.base.graph));
+        let fences = sc_fences(self.base.graph);
+        let starts = itself.union(&self.hb.from(fences));
+        let ends = itself.union(&self.hb.to(fences));
+        starts.then(&self.sc_before().then(&ends))
+    }
 
-/// From an acquire read to itself, and from what is sb-before an acquire fence to the fence.
-fn acquired(graph: &Graph, sb: &Relation) -> Relation
-    requires { sb.now.rows ≡ sb_rows (view graph.now) }
-    ensures { result.rows ≡ acquires_rows (view graph.now) }
-{
-    let itself = Relation::identity(events(graph, Property::AcquireRead));
-    itself.union(&sb.to(events(graph, Property::AcquireFence)))
-}
+    /// psc, second form: hb, or hb, eco, hb, between sc fences.
+    #[tactic(auto, unfolding(consistency::specs::Computed::psc_fence_rows))]
+    fn fence_sc(&self) -> Relation
+        ensures { result.rows ≡ psc_fence_rows (view self.now.base.graph.now) }
+    {
+        let fences = sc_fences(self.base.graph);
+        let around = self.hb.then(&self.eco.then(&self.hb));
+        self.hb.union(&around).to(fences).from(fences)
+    }
 
-/// sw: what is released, handed on by a release sequence, read and acquired.
-fn synchronizes(graph: &Graph, sb: &Relation, rf: &Relation) -> Relation
-    requires sb_is { sb.now.rows ≡ sb_rows (view graph.now) }
-    requires rf_is { rf.now.rows ≡ rf_rows (view graph.now) }
-    ensures { result.rows ≡ sw_rows (view graph.now) }
-{
-    let read = rf.then(&acquired(graph, sb));
-    released(graph, sb).then(&sequences(graph, rf).then(&read))
-}
+    /// psc in its two forms.
+    #[tactic(auto, unfolding(consistency::specs::Computed::psc_rows))]
+    fn sc_steps(&self) -> Relation
+        ensures { result.rows ≡ psc_rows (view self.now.base.graph.now) }
+    {
+        self.partial_sc().union(&self.fence_sc())
+    }
 
-/// hb: one or more steps of sb or sw.
-pub(crate) fn happens(graph: &Graph, sb: &Relation, rf: &Relation) -> Relation
-    requires sb_is { sb.now.rows ≡ sb_rows (view graph.now) }
-    requires rf_is { rf.now.rows ≡ rf_rows (view graph.now) }
-    ensures { result.rows ≡ hb_rows (view graph.now) }
-{
-    sb.union(&synchronizes(graph, sb, rf)).closure()
-}
+    /// If no event a has a hb a, or a hb b with b eco a.
+    #[tactic(auto, unfolding(consistency::specs::Computed::keeps_2))]
+    pub(crate) fn is_coherent(&self) -> bool
+        ensures { result ≡ keeps_2 (view self.now.base.graph.now) }
+    {
+        self.hb.is_irreflexive() && self.hb.then(&self.eco).is_irreflexive()
+    }
 
-/// scb: sb; sb, hb, sb where neither sb shares a location; hb at one location; mo; rb.
-pub(crate) fn sc_before(
-    graph: &Graph,
-    sb: &Relation,
-    hb: &Relation,
-    mo: &Relation,
-    rb: &Relation,
-) -> Relation
-    requires sb_is { sb.now.rows ≡ sb_rows (view graph.now) }
-    requires hb_is { hb.now.rows ≡ hb_rows (view graph.now) }
-    requires mo_is { mo.now.rows ≡ mo_rows (view graph.now) }
-    requires rb_is { rb.now.rows ≡ rb_rows (view graph.now) }
-    ensures { result.rows ≡ scb_rows (view graph.now) }
-{
-    let sharing = relation(graph, Pairs::Shares);
-    let unshared = sb.without(&sharing);
-    let around = unshared.then(&hb.then(&unshared));
-    sb.union(&around.union(&hb.common(&sharing).union(&mo.union(rb))))
-}
-
-/// psc, first form: scb between sc events, or sc fences before and after.
-fn partial_sc(graph: &Graph, hb: &Relation, scb: &Relation) -> Relation
-    requires hb_is { hb.now.rows ≡ hb_rows (view graph.now) }
-    requires scb_is { scb.now.rows ≡ scb_rows (view graph.now) }
-    ensures { result.rows ≡ psc_base_rows (view graph.now) }
-{
-    let itself = Relation::identity(events(graph, Property::Sc));
-    let fences = events(graph, Property::ScFence);
-    let starts = itself.union(&hb.from(fences));
-    let ends = itself.union(&hb.to(fences));
-    starts.then(&scb.then(&ends))
-}
-
-/// psc, second form: hb, or hb, eco, hb, between sc fences.
-fn fence_sc(graph: &Graph, hb: &Relation, eco: &Relation) -> Relation
-    requires hb_is { hb.now.rows ≡ hb_rows (view graph.now) }
-    requires eco_is { eco.now.rows ≡ eco_rows (view graph.now) }
-    ensures { result.rows ≡ psc_fence_rows (view graph.now) }
-{
-    let fences = events(graph, Property::ScFence);
-    let around = hb.then(&eco.then(hb));
-    hb.union(&around).to(fences).from(fences)
-}
-
-/// psc in its two forms.
-pub(crate) fn sc_steps(graph: &Graph, hb: &Relation, eco: &Relation, scb: &Relation) -> Relation
-    requires hb_is { hb.now.rows ≡ hb_rows (view graph.now) }
-    requires eco_is { eco.now.rows ≡ eco_rows (view graph.now) }
-    requires scb_is { scb.now.rows ≡ scb_rows (view graph.now) }
-    ensures { result.rows ≡ psc_rows (view graph.now) }
-{
-    partial_sc(graph, hb, scb).union(&fence_sc(graph, hb, eco))
+    /// If psc has no cycle.
+    #[tactic(auto, unfolding(consistency::specs::Computed::keeps_4))]
+    pub(crate) fn is_sc_ordered(&self) -> bool
+        ensures { result ≡ keeps_4 (view self.now.base.graph.now) }
+    {
+        self.sc_steps().closure().is_irreflexive()
+    }
 }

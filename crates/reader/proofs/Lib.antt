@@ -1,5 +1,3 @@
-pub mod Foreign
 pub mod Growing
 pub mod Lines
 pub mod Looking
-pub mod Turns

@@ -24,15 +24,9 @@ fn is_permitted(byte: u8) -> bool
 
 /// The offset of the leftmost byte that a text may not have.
 fn foreign_byte(text: &[u8]) -> Option<usize>
-    ensures { result ≡ foreign 0 text.now }
+    ensures { result ≡ foreign text.now }
 {
-    let mut leftmost = None;
-    for (offset, byte) in text.iter().enumerate() {
-        if !is_permitted(*byte) {
-            leftmost = leftmost.or(Some(offset));
-        }
-    }
-    leftmost
+    text.iter().position(|byte| !is_permitted(*byte))
 }
 
 /// The program that a text spells, or the fault with which it is refused: for a wrong length or a foreign byte first, then the
@@ -46,6 +40,6 @@ pub fn read(text: &[u8]) -> Result<Program, Fault>
     }
     match foreign_byte(text) {
         Some(offset) => Err(Fault::ForeignByte { offset }),
-        None => threads::program(&mut Cursor::new(text)),
+        None => threads::parts(&mut Cursor::new(text)),
     }
 }

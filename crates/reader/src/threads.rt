@@ -1,83 +1,145 @@
-//! How lines and whole texts are read, statement after statement.
-ghost use Rattle.std.specs.Prelude.{◌≡◌, ◌+◌, ◌<◌, ◌≤◌, true, length, drop, is_ok, MatchBool, slice_index};
-ghost use Rattle.programs.specs.Parts.{body, bodies};
+//! How lines and whole texts are read, part after part.
+ghost use Rattle.std.specs.Prelude.{◌≡◌, ℕ, ◌<◌, ◌≤◌, true, List, [], ◌∷◌, map, length, drop, Result, is_ok, MatchBool};
+ghost use Rattle.std.specs.List.{before_first};
+ghost use Rattle.lang.specs.declared.syntax.Statement.{Statement};
+ghost use Rattle.programs.specs.Entries.{entries};
+ghost use Rattle.programs.specs.Parts.{body};
+ghost use Rattle.faults.specs.declared.Fault.{Fault};
 ghost use Rattle.faults.specs.declared.Fault.TheVariants.{NinthStatement, FifthLine};
+ghost use Rattle.grammar.specs.Pieces.{Piece};
 ghost use Rattle.grammar.specs.Answer.{read_statement, read_thread, read_each};
-ghost use Rattle.cursor.specs.Sight.{ends_statement, ends_line, Headed};
-ghost use Rattle.reader.specs.Ahead.{rest_of_line, line_end, statements_after, lines_from, lines_after, reading};
 ghost use Rattle.grammar.specs.Texts.{seen};
+ghost use Rattle.cursor.specs.declared.text.Cursor.{Cursor};
+ghost use Rattle.cursor.specs.Sight.{rest_of_statement, statement_end, ends_statement, ends_line, Advances};
+ghost use Rattle.reader.specs.Ahead.{rest_of_line, line_end, statements_after, lines_after};
 
 use cursor::text::Cursor;
 use faults::Fault;
+use lang::syntax::Statement;
+use programs::bounded::Bounded;
 use programs::threads::*;
 
-/// The most `;` in a line: one after each statement but the last.
-const MAX_SEMICOLONS: usize = MAX_STATEMENTS - 1;
+/// What follows one another in a text: the statements of a line, the lines of the text.
+pub(super) trait Part: Copy {
+    /// What the grammar sees of it.
+    ghost Seen: { Type 0 };
 
-/// The most LFs that a byte may follow: one after each line but the last.
-const MAX_LINE_FEEDS: usize = MAX_THREADS - 1;
+    ghost view: { Self → Seen };
 
-/// Reads on after a statement of a thread, up to the end of the line.
-fn statements_after(cursor: &mut Cursor, first: Thread) -> Result<Thread, Fault>
-    requires { Headed ends_statement (drop cursor.old.at cursor.old.text.now) }
-    ensures same { cursor.new.text ≡ cursor.old.text }
-    ensures forward { cursor.old.at ≤ cursor.new.at }
-    ensures value { seen body result ≡ reading NinthStatement read_statement 8 (body first) (statements_after cursor.old.text.now cursor.old.at) }
-    ensures after { is_ok result ≡ true → cursor.new.at ≡ line_end cursor.old.text.now cursor.old.at }
+    /// What a piece of the text is read as, and the fault of a piece too many.
+    ghost reads: { Piece → Result Seen Fault };
+
+    ghost over: { ℕ → Fault };
+
+    /// The piece that begins where the cursor stands, and the pieces after it.
+    ghost here: { Cursor → Piece };
+
+    ghost rest: { Cursor → List Piece };
+
+    /// A piece has ended here; the pieces after it, and the end of the last of them.
+    ghost Ended: { Cursor → Type 0 };
+
+    ghost after: { Cursor → List Piece };
+
+    ghost stop: { Cursor → ℕ };
+
+    /// The part that begins here.
+    fn read(cursor: &mut Cursor) -> Result<Self, Fault>
+        ensures forward { Advances cursor.old cursor.new }
+        ensures value { seen view result ≡ reads (here cursor.old) }
+        ensures ended { is_ok result ≡ true → Ended cursor.new × (after cursor.new ≡ rest cursor.old) × (stop cursor.new ≡ stop cursor.old) };
+
+    /// Passes over what ends a part, if it stands here, and says whether one more part begins.
+    fn follows(cursor: &mut Cursor) -> bool
+        requires { Ended cursor.old }
+        ensures forward { Advances cursor.old cursor.new }
+        ensures cases { MatchBool result ((cursor.old.at < cursor.new.at) × (after cursor.old ≡ here cursor.new ∷ rest cursor.new) × ((here cursor.new).offset ≡ cursor.new.at) × (stop cursor.new ≡ stop cursor.old)) ((after cursor.old ≡ []) × (cursor.new.at ≡ stop cursor.old)) };
+
+    /// The fault of a part too many, which begins at an offset.
+    fn one_too_many(offset: usize) -> Fault
+        ensures { result ≡ over offset };
+}
+
+impl Part for Statement {
+    ghost Seen = { Statement };
+
+    ghost view = { λ s. s };
+
+    ghost reads = { read_statement };
+
+    ghost over = { NinthStatement };
+
+    ghost here = { λ c. rest_of_statement c.text.now c.at };
+
+    ghost rest = { λ c. statements_after c.text.now (statement_end c.text.now c.at) };
+
+    ghost Ended = { λ c. before_first ends_statement (drop c.at c.text.now) ≡ [] };
+
+    ghost after = { λ c. statements_after c.text.now c.at };
+
+    ghost stop = { λ c. line_end c.text.now c.at };
+
+    fn read(cursor: &mut Cursor) -> Result<Statement, Fault> {
+        cursor.statement()
+    }
+
+    fn follows(cursor: &mut Cursor) -> bool {
+        cursor.skip(b';')
+    }
+
+    fn one_too_many(offset: usize) -> Fault {
+        Fault::NinthStatement { offset }
+    }
+}
+
+impl Part for Thread {
+    ghost Seen = { List Statement };
+
+    ghost view = { body };
+
+    ghost reads = { read_thread };
+
+    ghost over = { FifthLine };
+
+    ghost here = { λ c. rest_of_line c.text.now c.at };
+
+    ghost rest = { λ c. lines_after c.text.now (line_end c.text.now c.at) };
+
+    ghost Ended = { λ c. before_first ends_line (drop c.at c.text.now) ≡ [] };
+
+    ghost after = { λ c. lines_after c.text.now c.at };
+
+    ghost stop = { λ c. length c.text.now };
+
+    fn read(cursor: &mut Cursor) -> Result<Thread, Fault> {
+        parts(cursor)
+    }
+
+    fn follows(cursor: &mut Cursor) -> bool {
+        cursor.skip(b'\n') && !cursor.is_at_end()
+    }
+
+    fn one_too_many(offset: usize) -> Fault {
+        Fault::FifthLine { offset }
+    }
+}
+
+/// The parts from the one that begins here to the last, if they are no more than may be.
+pub(super) fn parts<T: Part, const MOST: usize>(
+    cursor: &mut Cursor,
+) -> Result<Bounded<T, 1, MOST>, Fault>
+    requires { 1 ≤ MOST }
+    ensures forward { Advances cursor.old cursor.new }
+    ensures value { seen (λ list. map T.view (entries list)) result ≡ read_each MOST T.over T.reads (T.here cursor.old ∷ T.rest cursor.old) }
+    ensures after { is_ok result ≡ true → cursor.new.at ≡ T.stop cursor.old }
 {
-    let mut thread = first;
-    while cursor.skip(b';') {
+    let mut parts = Bounded::new(T::read(cursor)?);
+    while T::follows(cursor) {
         let start = cursor.offset();
-        if thread.len() > MAX_SEMICOLONS {
-            return Err(Fault::NinthStatement { offset: start });
+        if parts.len() == MOST {
+            return Err(T::one_too_many(start));
         }
-        let statement = cursor.statement()?;
-        thread.push(statement).unwrap();
+        parts.push(T::read(cursor)?).unwrap();
     }
-    Ok(thread)
-}
-
-/// The thread that the line from here on spells.
-fn thread(cursor: &mut Cursor) -> Result<Thread, Fault>
-    ensures same { cursor.new.text ≡ cursor.old.text }
-    ensures forward { cursor.old.at ≤ cursor.new.at }
-    ensures value { seen body result ≡ read_thread (rest_of_line cursor.old.text.now cursor.old.at) }
-    ensures after { is_ok result ≡ true → cursor.new.at ≡ line_end cursor.old.text.now cursor.old.at }
-{
-    let first = cursor.statement()?;
-    statements_after(cursor, Thread::new(first))
-}
-
-/// Passes over an LF, if one stands here, and says whether a byte follows: then a line begins.
-fn next_line(cursor: &mut Cursor) -> bool
-    ensures same { cursor.new.text ≡ cursor.old.text }
-    ensures cases { MatchBool result ((cursor.old.at < length cursor.old.text.now) × (slice_index cursor.old.text.now cursor.old.at ≡ 10) × (cursor.new.at ≡ cursor.old.at + 1) × (cursor.new.at < length cursor.old.text.now)) (cursor.old.at < length cursor.old.text.now → slice_index cursor.old.text.now cursor.old.at ≡ 10 → length cursor.old.text.now ≤ cursor.old.at + 1) }
-{
-    cursor.skip(b'\n') && !cursor.is_at_end()
-}
-
-/// Reads on after a line of a program, up to the end of the text.
-fn lines_after(cursor: &mut Cursor, first: Program) -> Result<Program, Fault>
-    requires { Headed ends_line (drop cursor.old.at cursor.old.text.now) }
-    ensures value { seen bodies result ≡ reading FifthLine read_thread 4 (bodies first) (lines_after cursor.old.text.now cursor.old.at) }
-{
-    let mut program = first;
-    while next_line(cursor) {
-        let line = cursor.offset();
-        if program.len() > MAX_LINE_FEEDS {
-            return Err(Fault::FifthLine { offset: line });
-        }
-        let thread = thread(cursor)?;
-        program.push(thread).unwrap();
-    }
-    Ok(program)
-}
-
-/// The program that the text from here on spells, where a line begins.
-pub(super) fn program(cursor: &mut Cursor) -> Result<Program, Fault>
-    requires { cursor.old.at < length cursor.old.text.now }
-    ensures value { seen bodies result ≡ read_each 4 FifthLine read_thread (lines_from cursor.old.text.now cursor.old.at) }
-{
-    let first = thread(cursor)?;
-    lines_after(cursor, Program::new(first))
+    Ok(parts)
 }

@@ -1,9 +1,9 @@
 -- Which events a set holds, after each way to make one: both, either, the rest, one event, those that pass a test, those that are reached.
-use Rattle.std.proofs.Common.{◌≡◌, ℕ, zero, suc, ◌+◌, ◌-◌, ◌/◌, ◌%◌, ◌^◌, ◌<◌, Bool, true, false, cond, not, ◌&&◌, ◌||◌, eqb, ltb, List, Decides, sym, refl, ap, ◌∙◌, ⊎_elim, mod-lt, one-mul, pow-suc, add-one, arith, lit<}
+use Rattle.std.proofs.Common.{◌≡◌, ℕ, zero, suc, ◌+◌, ◌-◌, ◌/◌, ◌%◌, ◌^◌, ◌<◌, Bool, true, false, cond, not, ◌&&◌, ◌||◌, eqb, ltb, List, Decides, sym, refl, ap, ◌∙◌, ⊎_elim, mod-lt, one-mul, pow-suc, arith, lit<}
 use native.Mathlib.Nat.{zero-div, div-eq_of_lt, mul-mod_left}
 use lib.Bits.{bit_and, bit_or, bit_xor, and_shr, and_mod, or_shr, or_mod, xor_shr, xor_mod, xor_add_and, and_comm, and_mask}
 use Rattle.std.proofs.lemmas.Nat.{shl-shr, pow-add, pow_below, or_lt}
-use Rattle.std.proofs.lemmas.Bool.{cases_order, cond-true, cond-false, eq-eqb, ne_eqb, le-ltb, cond_both}
+use Rattle.std.proofs.lemmas.Bool.{cases_order, eq-eqb, ne_eqb, le-ltb, cond_both}
 use Rattle.std.proofs.lemmas.Bool.Decides.{nat_tests, Decides-below_or}
 use Rattle.relations.specs.Rows.{bit, has, row, related, chosen, every, gathered}
 use Rattle.relations.proofs.Every.{every_below}
@@ -83,15 +83,6 @@ has_power a e =
         ∙ ap (λ (v : ℕ). eqb v 1) (mul-mod_left (2 ^ d) 2)
         ∙ sym (ne_eqb a e (λ q. omega arith))
 
--- The events below n that pass a test, with one more asked.
-pub chosen_hit : (n : ℕ) (test : ℕ → Bool) → test n ≡ true → bit_or (chosen n test) (2 ^ n) ≡ chosen (n + 1) test
-unfolding chosen
-chosen_hit n test t = sym (ap (λ (v : ℕ). chosen v test) (add-one n) ∙ cond-true (test n) (bit_or (chosen n test) (2 ^ n)) (chosen n test) t)
-
-pub chosen_miss : (n : ℕ) (test : ℕ → Bool) → test n ≡ false → chosen n test ≡ chosen (n + 1) test
-unfolding chosen
-chosen_miss n test t = sym (ap (λ (v : ℕ). chosen v test) (add-one n) ∙ cond-false (test n) (bit_or (chosen n test) (2 ^ n)) (chosen n test) t)
-
 one_more : (e n : ℕ) (t : Bool) → (e ≡ n → t ≡ true) → ((ltb e n && t) || eqb n e) ≡ (ltb e (suc n) && t)
 one_more e n t h = grind (arith, nat_tests)
 
@@ -118,15 +109,6 @@ chosen_below zero test = lit< tt
 chosen_below (suc n) test =
     let less : 2 ^ n < 2 ^ suc n = pow_below n (suc n) (omega arith) in
     cond_both (test n) (bit_or (chosen n test) (2 ^ n)) (chosen n test) (λ v. v < 2 ^ suc n) (λ t. or_lt (suc n) (chosen n test) (2 ^ n) (omega (arith, chosen_below n test)) less) (λ t. omega (arith, chosen_below n test))
-
--- What the events of a set below n are related to, with one more asked.
-pub gathered_hit : (n set : ℕ) (r : List ℕ) → has set n ≡ true → bit_or (gathered n set r) (row r n) ≡ gathered (n + 1) set r
-unfolding gathered
-gathered_hit n set r t = sym (ap (λ (v : ℕ). gathered v set r) (add-one n) ∙ cond-true (has set n) (bit_or (gathered n set r) (row r n)) (gathered n set r) t)
-
-pub gathered_miss : (n set : ℕ) (r : List ℕ) → has set n ≡ false → gathered n set r ≡ gathered (n + 1) set r
-unfolding gathered
-gathered_miss n set r t = sym (ap (λ (v : ℕ). gathered v set r) (add-one n) ∙ cond-false (has set n) (bit_or (gathered n set r) (row r n)) (gathered n set r) t)
 
 -- An event is reached from a set when one of the set is related to it.
 pub gathered_tells : (n set : ℕ) (r : List ℕ) (e : ℕ) → Decides (has (gathered n set r) e) ((k : ℕ) × (k < n) × ((has set k && related r k e) ≡ true))

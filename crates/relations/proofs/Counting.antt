@@ -1,10 +1,11 @@
 -- How many bits a number has, against how many events pass the test of being in it.
-use Rattle.std.proofs.Common.{◌≡◌, ℕ, zero, suc, ◌+◌, ◌%◌, ◌^◌, ◌<◌, ◌≤◌, cond, eqb, sym, refl, ap, ◌∙◌, add-one, one-add, arith}
+use Rattle.std.proofs.Common.{◌≡◌, ℕ, zero, suc, ◌+◌, ◌%◌, ◌^◌, ◌<◌, ◌≤◌, List, take, length, length-take, get_or, sum_by, cond, eqb, sym, refl, ap, ◌∙◌, add-one, one-add, arith}
 use native.Mathlib.Nat.{mod-one}
 use lib.Bits.{bit_and, and_mask, mask_lt}
 use lib.Count.{ones, ones_cat, ones-le}
 use Rattle.std.proofs.lemmas.Nat.{mod-pow-add, pow_pos, mod_below}
-use Rattle.relations.specs.Rows.{bit, has, counted, summed}
+use Rattle.std.proofs.lemmas.List.Sums.{sum_by_more, sum_by-le}
+use Rattle.relations.specs.Rows.{bit, has, row, related, counted, summed}
 use Rattle.relations.proofs.Bits.{bit_small}
 
 ones_bit : (x : ℕ) → x < 2 → ones x ≡ cond (eqb x 1) 1 0
@@ -31,10 +32,17 @@ ones_low n = ap ones (and_mask n 32) ∙ ones_counted 32 n
 pub ones_few : (n : ℕ) → ones (bit_and n 4294967295) ≤ 32
 ones_few n = ones-le 32 (bit_and n 4294967295) (mask_lt n 32)
 
-pub summed_none : (f : ℕ → ℕ) → summed 0 f ≡ 0
-unfolding summed
-summed_none f = refl
+-- The same, over the first rows.
+abbrev low : ℕ → ℕ
+low row = ones (bit_and row 4294967295)
 
-pub summed_more : (n : ℕ) (f : ℕ → ℕ) → summed (n + 1) f ≡ f n + summed n f
+pub low_summed : (rows : List ℕ) (n : ℕ) → n ≤ length rows → sum_by (λ row. ones (bit_and row 4294967295)) (take n rows) ≡ summed n (λ a. counted 32 (related rows a))
 unfolding summed
-summed_more n f = ap (λ (v : ℕ). summed v f) (add-one n)
+low_summed rows zero h = refl
+low_summed rows (suc n) h =
+    ap (λ (v : ℕ). sum_by low (take v rows)) (sym (add-one n))
+    ∙ sum_by_more low rows n 0 (omega arith)
+    ∙ omega (arith, low_summed rows n (omega arith), ones_low (row rows n))
+
+pub low_few : (rows : List ℕ) → sum_by (λ row. ones (bit_and row 4294967295)) (take 32 rows) ≤ 1024
+low_few rows = omega (arith, sum_by-le low 32 (take 32 rows) (λ k d l. ones_few (get_or (take 32 rows) k d)), length-take 32 rows)

@@ -1,6 +1,6 @@
 -- When all events below a number pass a test.
-use Rattle.std.proofs.Common.{◌≡◌, ℕ, ◌+◌, ◌<◌, Bool, true, false, Decides, sym, refl, ap, ◌∙◌, inl, inr, add-one}
-use Rattle.std.proofs.lemmas.Bool.{and_from, cases_Bool, both_ways}
+use Rattle.std.proofs.Common.{◌≡◌, ℕ, ◌<◌, Bool, true, false, Decides, sym, refl, inl, inr}
+use Rattle.std.proofs.lemmas.Bool.{cases_Bool, both_ways}
 use Rattle.std.proofs.lemmas.Bool.Decides.{Decides-below_and}
 use Rattle.relations.specs.Rows.{every}
 
@@ -10,14 +10,6 @@ every_tells n test = Decides-below_and test (λ k. test k ≡ true) (λ m. every
 
 pub every_below : (n : ℕ) (test : ℕ → Bool) → every n test ≡ true → (k : ℕ) → k < n → test k ≡ true
 every_below n test = (every_tells n test).0
-
-pub every_none : (test : ℕ → Bool) → every 0 test ≡ true
-unfolding every
-every_none test = refl
-
-pub every_more : (n : ℕ) (test : ℕ → Bool) → every n test ≡ true → test n ≡ true → every (n + 1) test ≡ true
-unfolding every
-every_more n test e h = ap (λ (v : ℕ). every v test) (add-one n) ∙ and_from (test n) (every n test) h e
 
 -- One that fails is enough.
 pub every_fails : (n : ℕ) (test : ℕ → Bool) (k : ℕ) → k < n → test k ≡ false → false ≡ every n test

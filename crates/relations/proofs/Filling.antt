@@ -1,29 +1,37 @@
--- Rows that a loop fills one by one, each with what a function gives for it.
-use Rattle.std.proofs.Common.{◌≡◌, ℕ, ◌+◌, ◌<◌, ◌≤◌, List, map, length, set, sym, ◌∙◌, subst, arith}
+-- Rows that are made one by one, each as a function gives it.
+use Rattle.std.proofs.Common.{◌≡◌, ℕ, zero, suc, ◌+◌, ◌<◌, ◌≤◌, List, map, refl, sym, ◌∙◌, subst, ⊎_elim, arith}
+use denote.Param.Members.{Mut, Called}
+use Rattle.std.specs.Iterator.{CallableAtEachTurn}
+use Rattle.std.proofs.lemmas.Fn.{serves_by}
+use Rattle.std.specs.Array.{index_steps, IsFromFnResult, IsFromFnResultFrom}
 use Rattle.std.specs.List.{range_with_len}
 use Rattle.std.proofs.lemmas.List.FromFn.{fill_by_all, get_or-map-range_with_len, length-map-range_with_len}
-use Rattle.std.proofs.lemmas.List.Edits.{fill_by_more}
-use Rattle.std.proofs.lemmas.List.{length-set, get_or_past}
+use Rattle.std.proofs.lemmas.List.{get_or_past}
+use Rattle.std.proofs.lemmas.Bool.{cases_lt}
 use Rattle.relations.specs.Rows.{row, rows_by}
 
--- The first i of 36 rows are filled.
-pub record Filled (f : ℕ → ℕ) (rows : List ℕ) (i : ℕ) : Type 0 where
-  pub whole : length rows ≡ 36
-  pub below : (k : ℕ) → k < i → row rows k ≡ f k
+module _ {F : Type 0} (g : Mut F (ℕ × Unit {0}) ℕ) (f : F) (h : ℕ → ℕ) (gives : (i y : ℕ) (q : F) → i < 36 → Called g f (i, tt) y q → (y ≡ h i) × (q ≡ f)) where
+  made_from : (ys : List ℕ) (n i k : ℕ) → i + n ≤ 36 → IsFromFnResultFrom g f ys i n → i ≤ k → k < i + n → row ys k ≡ h k
+  made_from ys zero i k fits m from below = absurd (omega arith)
+  made_from ys (suc n) i k fits m from below =
+      let now = gives i m.1 m.0 (omega arith) m.3 in
+      ⊎_elim
+      (λ l. made_from ys n (i + 1) k (omega arith) (subst (λ (q : F). IsFromFnResultFrom g q ys (i + 1) n) now.1 m.4) (omega arith) (omega arith))
+      (λ l. let same : i ≡ k = omega arith in rw (← same) (m.2.1 0 ∙ now.0))
+      (cases_lt i k)
 
-pub filled_none : {f : ℕ → ℕ} {rows : List ℕ} → length rows ≡ 36 → Filled f rows 0
-filled_none e = record { whole = e; below = λ k h. absurd (omega arith) }
+  -- What `array::from_fn` makes of calls that each give what h gives.
+  pub made_all : (ys : List ℕ) → IsFromFnResult g f ys 36 → ys ≡ rows_by h
+  unfolding rows_by
+  made_all ys m = fill_by_all h ys 36 0 m.long (λ k l. made_from ys 36 0 k (omega arith) m.each (omega arith) (omega arith))
 
-pub filled_more : {f : ℕ → ℕ} {rows : List ℕ} {i x : ℕ} → i < 36 → x ≡ f i → Filled f rows i → Filled f (set rows i x) (i + 1)
-filled_more {f} {rows} {i} {x} h e p =
-    record {
-      whole = length-set rows i x ∙ p.whole;
-      below = subst (λ (y : ℕ). (k : ℕ) → k < i + 1 → row (set rows i y) k ≡ f k) (sym e) (fill_by_more f rows i 0 (omega (arith, p.whole)) p.below);
-    }
-
-pub filled_all : {f : ℕ → ℕ} {rows : List ℕ} {i : ℕ} → 36 ≤ i → Filled f rows i → rows ≡ rows_by f
-unfolding rows_by
-filled_all {f} {rows} {i} h p = fill_by_all f rows 36 0 p.whole (λ k l. p.below k (omega arith))
+-- It may make them, where a call at each number below 36 is allowed.
+pub made_safely : {F : Type 0} (g : Mut F (ℕ × Unit {0}) ℕ) (f : F) (Pre : F → ℕ → Type 0) → ((i y : ℕ) (q : F) → Called g f (i, tt) y q → q ≡ f) → ((i : ℕ) → i < 36 → Pre f i) → CallableAtEachTurn (index_steps 36) (λ p x q. (y : ℕ) × Called g p (x, tt) y q) Pre 0 f
+made_safely {F} g f Pre same allowed =
+    serves_by (λ p x q. (y : ℕ) × Called g p (x, tt) y q) (λ xs q. q ≡ f)
+    (λ xs q x v e k. same x k.0 v (subst (λ (p : F). Called g p (x, tt) k.0 v) e k.1))
+    (index_steps 36) Pre 0 f refl
+    (λ xs t q x u y s e. subst (λ (p : F). Pre p x) (sym e) (allowed x (omega arith)))
 
 -- The rows, read again.
 pub row_by : (f : ℕ → ℕ) (a : ℕ) → a < 36 → row (rows_by f) a ≡ f a

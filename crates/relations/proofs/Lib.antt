@@ -4,3 +4,4 @@ pub mod Every
 pub mod Filling
 pub mod Shown
 pub mod Warshall
+pub mod Chains

@@ -1,15 +1,11 @@
 -- Warshall's passes hold just the pairs of one or more steps.
-use Rattle.std.proofs.Common.{◌≡◌, ℕ, zero, suc, ◌+◌, ◌<◌, ◌≤◌, true, ◌&&◌, ◌||◌, ◌⊎◌, List, sym, ap, ◌∙◌, subst, inl, inr, ⊎_elim, add-one, arith}
+use Rattle.std.proofs.Common.{◌≡◌, ℕ, zero, suc, ◌<◌, ◌≤◌, true, ◌&&◌, ◌||◌, ◌⊎◌, List, sym, ap, ◌∙◌, subst, inl, inr, ⊎_elim, arith}
 use lib.Bits.{bit_or}
 use Rattle.std.proofs.lemmas.Bool.{cases_lt, cond_both, or_cases, or_left, or_right, and_from, and_parts}
 use Rattle.relations.specs.Algebra.{Plus, last, next}
 use Rattle.relations.specs.Rows.{has, row, related, joined, passed, passes}
 use Rattle.relations.proofs.Bits.{has_or}
 use Rattle.relations.proofs.Filling.{row_by}
-
-pub passes_more : (k : ℕ) (r : List ℕ) → passed (passes k r) k ≡ passes (k + 1) r
-unfolding passes
-passes_more k r = sym (ap (λ (v : ℕ). passes v r) (add-one k))
 
 has_joined : (pivot k line b : ℕ) → has (joined pivot k line) b ≡ (has line b || (has line k && has pivot b))
 has_joined pivot k line b =

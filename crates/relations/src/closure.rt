@@ -14,16 +14,13 @@ fn joined(pivot: u64, k: usize, line: u64) -> u64
 }
 
 /// One pass over the rows.
+#[tactic(auto, unfolding(crate::specs::Rows::passed))]
 fn pass(relation: &Relation, k: usize) -> Relation
     requires { k < 36 }
     ensures { result.rows ≡ passed relation.now.rows k }
 {
     let pivot = relation.rows[k];
-    let mut rows = [0; EVENTS];
-    for a in 0..EVENTS {
-        rows[a] = joined(pivot, k, relation.rows[a]);
-    }
-    Relation { rows }
+    Relation::by_rows(|a| joined(pivot, k, relation.rows[a]))
 }
 
 impl Relation {
@@ -31,10 +28,6 @@ impl Relation {
     pub fn closure(&self) -> Relation
         ensures { result.rows ≡ closed self.now.rows }
     {
-        let mut closed = *self;
-        for k in 0..EVENTS {
-            closed = pass(&closed, k);
-        }
-        closed
+        (0..EVENTS).fold(*self, |closed, k| pass(&closed, k))
     }
 }

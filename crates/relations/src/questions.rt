@@ -9,12 +9,7 @@ use events::event::{EVENTS, STATEMENTS};
 fn contained(first: u64, second: u64) -> bool
     ensures { result ≡ every 36 (λ e. not (has first e) || has second e) }
 {
-    for e in 0..EVENTS {
-        if has(first, e) && !has(second, e) {
-            return false;
-        }
-    }
-    true
+    (0..EVENTS).all(|e| !has(first, e) || has(second, e))
 }
 
 impl Relation {
@@ -29,24 +24,14 @@ impl Relation {
     pub fn is_irreflexive(&self) -> bool
         ensures { result ≡ irreflexive self.now.rows }
     {
-        for a in 0..EVENTS {
-            if has(self.rows[a], a) {
-                return false;
-            }
-        }
-        true
+        (0..EVENTS).all(|a| !has(self.rows[a], a))
     }
 
     /// If every pair of this is a pair of the other.
     pub fn is_within(&self, other: &Relation) -> bool
         ensures { result ≡ within self.now.rows other.now.rows }
     {
-        for a in 0..EVENTS {
-            if !contained(self.rows[a], other.rows[a]) {
-                return false;
-            }
-        }
-        true
+        (0..EVENTS).all(|a| contained(self.rows[a], other.rows[a]))
     }
 
     /// The number of pairs of statement events.
@@ -54,10 +39,9 @@ impl Relation {
         ensures value { result ≡ pairs_below 32 self.now.rows }
         ensures bound { result ≤ 1024 }
     {
-        let mut sum = 0;
-        for a in 0..STATEMENTS {
-            sum += (self.rows[a] & 0xffff_ffff).count_ones();
-        }
-        sum
+        self.rows[..STATEMENTS]
+            .iter()
+            .map(|row| (row & 0xffff_ffff).count_ones())
+            .sum()
     }
 }

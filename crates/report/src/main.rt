@@ -2,8 +2,7 @@
 #![tactic(auto)]
 
 use anyhow::anyhow;
-use lang::syntax::Statement;
-use programs::threads::Program;
+use programs::threads::*;
 use std::process::ExitCode;
 use std::{env, io};
 
@@ -38,27 +37,16 @@ fn asks_for_help(rt: &HostRuntime) -> anyhow::Result<bool> {
     }
 }
 
-fn print_event(
-    rt: &HostRuntime,
-    thread: usize,
-    place: usize,
-    statement: Statement,
-) -> io::Result<()> {
-    println!(rt; "{thread}.{place} {statement}")
-}
-
-fn print_thread(rt: &HostRuntime, program: &Program, thread: usize) -> io::Result<()> {
-    for place in 0..program.statements(thread) {
-        if let Some(statement) = program.statement(thread, place) {
-            print_event(rt, thread, place, statement)?;
-        }
+fn print_thread(rt: &HostRuntime, number: usize, thread: &Thread) -> io::Result<()> {
+    for (place, statement) in thread.as_slice().iter().enumerate() {
+        println!(rt; "{number}.{place} {statement}")?;
     }
     Ok(())
 }
 
 fn print_program(rt: &HostRuntime, program: &Program) -> io::Result<()> {
-    for thread in 0..program.len() {
-        print_thread(rt, program, thread)?;
+    for (number, thread) in program.as_slice().iter().enumerate() {
+        print_thread(rt, number, thread)?;
     }
     Ok(())
 }

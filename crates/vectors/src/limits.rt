@@ -13,9 +13,7 @@ fn answer(heap: Global, text: &[u8]) -> Result<String, AllocError> {
 /// A text of a length of 8 or more: `fence sc`, and then spaces.
 fn padded(heap: Global, len: usize) -> Result<Vec<u8>, AllocError> {
     let mut text = Vec::from_slice(heap, b"fence sc")?;
-    for _ in 8..len {
-        text.push(b' ')?;
-    }
+    text.resize(len, b' ')?;
     Ok(text)
 }
 

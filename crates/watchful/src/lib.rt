@@ -23,12 +23,7 @@ pub struct Watchful;
 fn store_before(thread: &Thread, at: usize) -> bool
     ensures { result ≡ preceded (body thread.now) at }
 {
-    for place in 0..at {
-        if store_at(thread, place) {
-            return true;
-        }
-    }
-    false
+    (0..at).any(|place| store_at(thread, place))
 }
 
 impl Mapping for Watchful {

@@ -26,13 +26,13 @@ loop-at-preserved c =
           let read : get_or c.args.below at nothing ≡ f at = plan_read f c.args.below at e (omega arith) in
           let held = c.loop-at.invariant.1 f e in (
             c.pass-left.ensures.pending
-                ∙ ap (λ (s : Option Statement). still_pending s (get_or c.args.below at nothing) c.loop-at.pending) c.statement.ensures
+                ∙ ap (λ (s : Option Statement). still_pending s (get_or c.args.below at nothing) c.loop-at.pending) c.get.ensures
                 ∙ ap (λ (p : Placement). still_pending (slice_get t at) p c.loop-at.pending) read
                 ∙ ap (still_pending (slice_get t at) (f at)) held.0
                 ∙ pending_turn f t at,
             filled_more (spared_at f t) c.loop-at.plan at c.pass-left.result.0 (omega (arith, c.loop-at.invariant.0))
                 (c.pass-left.ensures.placement
-                ∙ ap (λ (s : Option Statement). kept s (get_or c.args.below at nothing) c.loop-at.pending) c.statement.ensures
+                ∙ ap (λ (s : Option Statement). kept s (get_or c.args.below at nothing) c.loop-at.pending) c.get.ensures
                 ∙ ap (λ (p : Placement). kept (slice_get t at) p c.loop-at.pending) read
                 ∙ ap (kept (slice_get t at) (f at)) held.0
                 ∙ kept_turn f t at)

@@ -10,4 +10,4 @@ use Rattle.layers.proofs.sparing.spared_plan.Given as goal
 abbrev pub invariant-loop-at : goal.invariant-loop-at
 invariant-loop-at l =
     (length l.plan ≡ 8)
-    × ((f : ℕ → Placement) → l.below ≡ map f (range_with_len 0 8) → (l.pending ≡ pending f (body l.thread) (3 * l.at)) × ((k : ℕ) → k < l.at → get_or l.plan k nothing ≡ spared_at f (body l.thread) k))
+    × ((f : ℕ → Placement) → l.fn.below ≡ map f (range_with_len 0 8) → (l.pending ≡ pending f (body l.thread) (3 * l.at)) × ((k : ℕ) → k < l.at → get_or l.plan k nothing ≡ spared_at f (body l.thread) k))

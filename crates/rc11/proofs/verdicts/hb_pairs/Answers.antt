@@ -1,14 +1,12 @@
-use Rattle.std.proofs.Common.{sym, ap, ◌∙◌, subst}
-use Rattle.relations.specs.Rows.{pairs_below}
+use Rattle.std.proofs.Common.{◌≡◌}
 use Rattle.graph.specs.Execution.{view}
-use Rattle.consistency.specs.Relations.{Hb}
-use Rattle.consistency.specs.Counting.{NumberOfPairs}
+use Rattle.relations.specs.Rows.{pairs_below}
+use Rattle.consistency.specs.Computed.{hb_rows}
 use Rattle.consistency.proofs.Bounds.{bounded}
 use Rattle.consistency.proofs.Pairs.{hb_number}
 use Rattle.rc11.proofs.verdicts.hb_pairs.Goals as goal
 
-pub returns : goal.returns
-returns c =
-    let g = c.args.graph.now in
-    let count = c.statement_pairs.ensures.value ∙ ap (pairs_below 32) c.happens_before.ensures.value in
-    record { value = count; number = subst (NumberOfPairs (Hb (view g))) (sym count) (hb_number (view g) (bounded g)) }
+pub returns-clause-number : goal.returns-clause-number
+returns-clause-number c =
+    let count : c.statement_pairs.result ≡ pairs_below 32 (hb_rows (view c.args.graph.now)) = cc in
+    rw count (hb_number _ (bounded c.args.graph.now))

@@ -1,39 +1,33 @@
-use Rattle.std.proofs.Common.{◌≡◌, ℕ, ◌+◌, ◌-◌, ◌<◌, List, [], ◌∷◌, take, drop, sym, refl, ap, ◌∙◌, arith}
-use Rattle.grammar.specs.Pieces.{piece}
-use Rattle.cursor.specs.Sight.{before, ends_word, ends_statement, words_left, statement_end}
-use Rattle.cursor.proofs.Ahead.{take_before}
+use Rattle.std.proofs.Common.{◌≡◌, ℕ, List, [], length, take, drop, sym, refl, ap, ◌∙◌, arith, Bor}
+use Rattle.std.specs.List.{before_first}
+use Rattle.std.proofs.lemmas.List.Folds.{length-prefix_len}
+use Rattle.cursor.specs.Sight.{ends_word, ends_statement}
 use Rattle.cursor.proofs.Looking.{word_length, word_words, word_end, over, over_words, over_end}
 use Rattle.cursor.proofs.text.Cursor.word.Goals as goal
+use Rattle.cursor.proofs.text.Cursor.word.Goals.{After-word_length-length}
 
-pub returns-then-stop-offset : goal.returns-then-stop-offset
-returns-then-stop-offset c =
+rest : (c : After-word_length-length) → c.rest-rest.result.now ≡ drop c.skip_spaces.new.self.at c.args.self.now.text.now
+rest c = c.rest-rest.ensures ∙ ap (λ (t : Bor (List ℕ)). drop c.skip_spaces.new.self.at t.now) c.skip_spaces.ensures.forward.0
+
+far : (c : After-word_length-length) → c.word_length-length.result ≡ word_length c.args.self.now.text.now c.skip_spaces.new.self.at
+far c = c.word_length-length.ensures ∙ ap (λ bs. length (before_first ends_word bs)) (rest c)
+
+pub returns-then-length-eq0-clause-cases : goal.returns-then-length-eq0-clause-cases
+returns-then-length-eq0-clause-cases c =
     let text : List ℕ = c.args.self.now.text.now in
     let here : ℕ = c.skip_spaces.new.self.at in
-    let none : word_length text here ≡ 0 = omega (arith, c.word_end-stop.ensures.0, c.if-stop-offset.true) in
-    let e : before ends_statement (drop here text) ≡ [] = over text here none c.skip_spaces.ensures.after in
-    record {
-      same = c.skip_spaces.ensures.same;
-      forward = c.skip_spaces.ensures.forward;
-      cases = (sym c.skip_spaces.ensures.left ∙ over_words text here e, refl, over_end text here e ∙ c.skip_spaces.ensures.stop);
-    }
+    let ended : before_first ends_statement (drop here text) ≡ [] =
+    over (drop here text) (omega (arith, far (goal.at.returns-then-length-eq0-clause-cases c).After-word_length-length)) c.skip_spaces.ensures.after in
+    (sym c.skip_spaces.ensures.left ∙ over_words text here ended, refl, over_end text here ended ∙ c.skip_spaces.ensures.stop)
 
-pub returns : goal.returns
-returns c =
+pub returns-clause-cases : goal.returns-clause-cases
+returns-clause-cases c =
     let text : List ℕ = c.args.self.now.text.now in
     let here : ℕ = c.skip_spaces.new.self.at in
-    let stop : ℕ = c.word_end-stop.result in
-    let far : stop ≡ here + word_length text here = c.word_end-stop.ensures.0 in
-    let some : 0 < word_length text here = omega (arith, c.if-stop-offset.false, far) in
-    let size : stop - here ≡ word_length text here = omega (arith, far) in
-    let bytes : take (stop - here) (drop here text) ≡ before ends_word (drop here text) = ap (λ n. take n (drop here text)) size ∙ take_before ends_word (drop here text) in
-    record {
-      same = c.skip_spaces.ensures.same;
-      forward = omega (arith, c.skip_spaces.ensures.forward, far);
-      cases = (
-        sym c.skip_spaces.ensures.left
-            ∙ word_words text here some
-            ∙ ap (λ n. piece here (before ends_word (drop here text)) ∷ words_left text n) (sym far)
-            ∙ ap (λ bs. piece here bs ∷ words_left text stop) (sym bytes),
-        ap (statement_end text) far ∙ word_end text here ∙ c.skip_spaces.ensures.stop,
-      );
-    }
+    let far = far (goal.at.returns-clause-cases c).After-word_length-length in
+    let rest = rest (goal.at.returns-clause-cases c).After-word_length-length in
+    let bytes : take c.word_length-length.result c.rest-rest.result.now ≡ before_first ends_word (drop here text) =
+    rw (far, rest) (ap (λ n. take n (drop here text)) (length-prefix_len _ (drop here text))) in (
+      rw (bytes, far) (sym c.skip_spaces.ensures.left ∙ word_words text here (omega arith)),
+      rw (far) (word_end text here ∙ c.skip_spaces.ensures.stop),
+    )

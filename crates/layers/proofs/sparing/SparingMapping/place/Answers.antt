@@ -1,6 +1,6 @@
 use Rattle.std.proofs.Common.{List, get_or, ap, ◌∙◌, arith}
-use Rattle.std.proofs.lemmas.List.{length-take}
 use Rattle.programs.specs.Parts.{body}
+use Rattle.programs.proofs.Sizes.{at_most}
 use Rattle.mapping.specs.declared.placement.Placement.{Placement}
 use Rattle.mapping.specs.Rule.{nothing}
 use Rattle.mapping.proofs.Plans.{plan_at}
@@ -14,4 +14,4 @@ returns g c =
     let f = spared (g.M.Mapping.meaning c.args.self.now.0) in
     c.planned.ensures
     ∙ ap (λ (ps : List Placement). get_or ps c.args.at nothing) c.plan.ensures
-    ∙ plan_at (f t) (λ i h. spared_ended (g.M.Mapping.meaning c.args.self.now.0) (g.met.M.Mapping.ended c.args.self.now.0) t i (omega (arith, length-take c.args.thread.now.len c.args.thread.now.statements))) c.args.at
+    ∙ plan_at (f t) (λ i h. spared_ended (g.M.Mapping.meaning c.args.self.now.0) (g.met.M.Mapping.ended c.args.self.now.0) t i (omega (arith, at_most c.args.thread.now))) c.args.at

@@ -1,6 +1,6 @@
 use Rattle.std.proofs.Common.{List, get_or, vec_items, ap, ◌∙◌, arith}
-use Rattle.std.proofs.lemmas.List.{length-take}
 use Rattle.programs.specs.Parts.{body}
+use Rattle.programs.proofs.Sizes.{at_most}
 use Rattle.mapping.specs.declared.placement.Placement.{Placement}
 use Rattle.mapping.specs.Rule.{nothing}
 use Rattle.mapping.proofs.Plans.{plan_at}
@@ -15,4 +15,4 @@ returns c =
     let b = c.args.self.now.base in
     c.planned.ensures
     ∙ ap (λ (ps : List Placement). get_or ps c.args.at nothing) c.plan.ensures
-    ∙ plan_at (piled (base_meaning b) ls t) (λ i h. (piled_lawful ls (base_meaning b) (base_lawful b)).ended t i (omega (arith, length-take c.args.thread.now.len c.args.thread.now.statements))) c.args.at
+    ∙ plan_at (piled (base_meaning b) ls t) (λ i h. (piled_lawful ls (base_meaning b) (base_lawful b)).ended t i (omega (arith, at_most c.args.thread.now))) c.args.at

@@ -1,11 +1,9 @@
-use Rattle.std.proofs.Common.{ℕ, List, refl, ap, ◌∙◌}
-use Rattle.relations.specs.Rows.{passed, passes}
-use Rattle.relations.proofs.Warshall.{passes_more}
+use Rattle.std.proofs.Common.{rules}
+use Rattle.relations.specs.Rows.{passes}
+use Rattle.relations.specs.declared.rows.Relation.{Relation}
+use Rattle.relations.proofs.Chains.{fold_below}
 use Rattle.relations.proofs.rows.Relation.closure.Goals as goal
 
-pub loop-k-init : goal.loop-k-init
+pub returns : goal.returns
 unfolding passes
-loop-k-init c = refl
-
-pub loop-k-preserved : goal.loop-k-preserved
-loop-k-preserved c = c.pass-closed.ensures ∙ ap (λ (r : List ℕ). passed r c.loop-k.k) c.loop-k.invariant ∙ passes_more c.loop-k.k c.args.self.now.rows
+returns c = fold_below _ _ (λ (r : Relation). r.rows) (λ n. passes n c.args.self.now.rows) 36 (λ k b r q l p e. search rules) _ _ _ (cc) (cc) c.fold.ensures.ran

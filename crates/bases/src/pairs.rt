@@ -1,0 +1,74 @@
+//! The relations that are found pair by pair.
+ghost use Rattle.std.specs.Prelude.{◌≡◌};
+ghost use Rattle.graph.specs.Execution.{view};
+ghost use Rattle.consistency.specs.Relations.{accesses};
+ghost use Rattle.consistency.specs.Computed.{is_sb, sb_rows, rf_rows, mo_rows, apart_rows, sharing_rows};
+
+use super::facts::*;
+use events::event::STATEMENTS;
+use graph::graph::Graph;
+use programs::threads::MAX_STATEMENTS;
+use relations::rows::Relation;
+
+/// If the first event stands before the second: earlier in its thread, or as an initial write.
+fn is_sb(graph: &Graph, a: usize, b: usize) -> bool
+    ensures { result ≡ is_sb (view graph.now) a b }
+{
+    let both = is_present(graph, a) && is_present(graph, b);
+    let in_thread = a / MAX_STATEMENTS == b / MAX_STATEMENTS && a < b;
+    both && b < STATEMENTS && (in_thread || STATEMENTS <= a)
+}
+
+/// sb: from an event to the later ones of its thread, and from an initial write to each statement's.
+#[tactic(auto, unfolding(consistency::specs::Computed::sb_rows))]
+pub fn sb(graph: &Graph) -> Relation
+    ensures { result.rows ≡ sb_rows (view graph.now) }
+{
+    Relation::of(|a, b| is_sb(graph, a, b))
+}
+
+/// rf: from a write to what reads from it.
+#[tactic(auto, unfolding(consistency::specs::Computed::rf_rows))]
+pub fn rf(graph: &Graph) -> Relation
+    ensures { result.rows ≡ rf_rows (view graph.now) }
+{
+    Relation::of(|w, r| is_read(graph, r) && graph.source(r).is_some_and(|s| s as usize == w))
+}
+
+/// mo: from a write to the later ones of its location.
+#[tactic(auto, unfolding(consistency::specs::Computed::mo_rows))]
+pub fn mo(graph: &Graph) -> Relation
+    ensures { result.rows ≡ mo_rows (view graph.now) }
+{
+    Relation::of(|a, b| {
+        let both = is_write(graph, a) && is_write(graph, b);
+        let l = location(graph, a);
+        both && l == location(graph, b) && graph.position(l, a) < graph.position(l, b)
+    })
+}
+
+/// Two different events.
+#[tactic(auto, unfolding(consistency::specs::Computed::apart_rows))]
+pub fn apart(graph: &Graph) -> Relation
+    ensures { result.rows ≡ apart_rows (view graph.now) }
+{
+    Relation::of(|a, b| is_present(graph, a) && is_present(graph, b) && a != b)
+}
+
+/// If an event reads or writes.
+fn is_access(graph: &Graph, e: usize) -> bool
+    ensures { result ≡ accesses (view graph.now) e }
+{
+    is_read(graph, e) || is_write(graph, e)
+}
+
+/// Two events that share a location.
+#[tactic(auto, unfolding(consistency::specs::Computed::sharing_rows))]
+pub fn sharing(graph: &Graph) -> Relation
+    ensures { result.rows ≡ sharing_rows (view graph.now) }
+{
+    Relation::of(|a, b| {
+        let both = is_access(graph, a) && is_access(graph, b);
+        both && location(graph, a) == location(graph, b)
+    })
+}
