@@ -4,9 +4,10 @@ ghost use Rattle.graph.specs.Execution.{view};
 ghost use Rattle.consistency.specs.Relations.{accesses};
 ghost use Rattle.consistency.specs.Computed.{is_sb, sb_rows, rf_rows, mo_rows, apart_rows, sharing_rows};
 
-use super::facts::*;
 use events::event::STATEMENTS;
+use graph::facts::*;
 use graph::graph::Graph;
+use graph::parts::*;
 use programs::threads::MAX_STATEMENTS;
 use relations::rows::Relation;
 
@@ -14,7 +15,7 @@ use relations::rows::Relation;
 fn is_sb(graph: &Graph, a: usize, b: usize) -> bool
     ensures { result ≡ is_sb (view graph.now) a b }
 {
-    let both = is_present(graph, a) && is_present(graph, b);
+    let both = graph.is_present(a) && graph.is_present(b);
     let in_thread = a / MAX_STATEMENTS == b / MAX_STATEMENTS && a < b;
     both && b < STATEMENTS && (in_thread || STATEMENTS <= a)
 }
@@ -32,7 +33,7 @@ pub fn sb(graph: &Graph) -> Relation
 pub fn rf(graph: &Graph) -> Relation
     ensures { result.rows ≡ rf_rows (view graph.now) }
 {
-    Relation::of(|w, r| is_read(graph, r) && graph.source(r).is_some_and(|s| s as usize == w))
+    Relation::of(|w, r| graph.is_read(r) && graph.source(r).is_some_and(|s| usize::from(s) == w))
 }
 
 /// mo: from a write to the later ones of its location.
@@ -41,9 +42,9 @@ pub fn mo(graph: &Graph) -> Relation
     ensures { result.rows ≡ mo_rows (view graph.now) }
 {
     Relation::of(|a, b| {
-        let both = is_write(graph, a) && is_write(graph, b);
-        let l = location(graph, a);
-        both && l == location(graph, b) && graph.position(l, a) < graph.position(l, b)
+        let both = graph.is_write(a) && graph.is_write(b);
+        let l = graph.location(a);
+        both && l == graph.location(b) && graph.position(l, a) < graph.position(l, b)
     })
 }
 
@@ -52,14 +53,14 @@ pub fn mo(graph: &Graph) -> Relation
 pub fn apart(graph: &Graph) -> Relation
     ensures { result.rows ≡ apart_rows (view graph.now) }
 {
-    Relation::of(|a, b| is_present(graph, a) && is_present(graph, b) && a != b)
+    Relation::of(|a, b| graph.is_present(a) && graph.is_present(b) && a != b)
 }
 
 /// If an event reads or writes.
 fn is_access(graph: &Graph, e: usize) -> bool
     ensures { result ≡ accesses (view graph.now) e }
 {
-    is_read(graph, e) || is_write(graph, e)
+    graph.is_read(e) || graph.is_write(e)
 }
 
 /// Two events that share a location.
@@ -69,6 +70,6 @@ pub fn sharing(graph: &Graph) -> Relation
 {
     Relation::of(|a, b| {
         let both = is_access(graph, a) && is_access(graph, b);
-        both && location(graph, a) == location(graph, b)
+        both && graph.location(a) == graph.location(b)
     })
 }

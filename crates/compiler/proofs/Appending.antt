@@ -10,9 +10,6 @@ use Rattle.compiler.specs.Compiled.{at_statement, at_place, compiled}
 pub at_some : (f : ℕ → Placement) (t : List Statement) (i : ℕ) (s : Statement) → slice_get t i ≡ Some s → at_place f t i ≡ at_statement i (f i) s
 at_some f t i s e = ap (λ (o : Option Statement). elim o as (λ _. List Instruction) [ Some s ↦ at_statement i (f i) s | None ↦ [] ]) e
 
-pub at_none : (f : ℕ → Placement) (t : List Statement) (i : ℕ) → slice_get t i ≡ None → at_place f t i ≡ []
-at_none f t i e = ap (λ (o : Option Statement). elim o as (λ _. List Instruction) [ Some s ↦ at_statement i (f i) s | None ↦ [] ]) e
-
 pub compiled_more : (f : ℕ → Placement) (t : List Statement) (i : ℕ) (c : List Instruction) → at_place f t i ≡ c → compiled f t i ++ c ≡ compiled f t (i + 1)
 compiled_more f t i c e = ap (λ x. compiled f t i ++ x) (sym e) ∙ sym (ap (compiled f t) (add-one i))
 

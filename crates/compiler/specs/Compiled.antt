@@ -44,7 +44,7 @@ abbrev pub ThreadCode : Type 0
 ThreadCode = Bounded Instruction 0 24
 
 -- What a host sees of a thread's code and of a program's.
-abbrev pub instructions_of : ThreadCode → List Instruction
+abbrev pub instructions_of : {LEAST MOST : ℕ} → Bounded Instruction LEAST MOST → List Instruction
 instructions_of c = entries c
 
 abbrev pub threads_of : Code → List (List Instruction)

@@ -1,4 +1,7 @@
 //! Compiled code: the instructions of each thread, with the program that they came from.
+ghost use Rattle.std.specs.Prelude.{◌≡◌, length};
+ghost use Rattle.programs.specs.Entries.{entries};
+
 use lang::syntax::*;
 use programs::bounded::Bounded;
 use programs::threads::*;
@@ -57,4 +60,5 @@ pub type ThreadCode = Bounded<Instruction, 0, MAX_INSTRUCTIONS>;
 pub struct Code {
     pub(crate) source: Program,
     pub(crate) threads: Bounded<ThreadCode, 0, MAX_THREADS>,
+    ghost each: { length (entries threads) ≡ length (entries source) },
 }

@@ -25,13 +25,13 @@ impl Code {
         ensures value { result ≡ instruction_count (threads_of self.now) thread }
         ensures bound { result ≤ 24 }
     {
-        self.threads.get(thread).map_or(0, |code| code.len())
+        self.threads().get(thread).map_or(0, |code| code.len())
     }
 
     /// The instruction at an index of a thread, if there is one.
     pub fn instruction(&self, thread: usize, at: usize) -> Option<Instruction>
         ensures { result ≡ instruction_at (threads_of self.now) thread at }
     {
-        self.threads.get(thread)?.get(at)
+        self.threads().get(thread)?.get(at)
     }
 }

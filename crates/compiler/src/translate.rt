@@ -67,7 +67,7 @@ fn own_instruction(place: usize, statement: Statement, locked: bool) -> Option<I
             location,
             operand,
         }),
-        Statement::Fence { mode } if mode == Mode::SeqCst => Some(Instruction::Fence { place }),
+        Statement::Fence { mode } if mode.is_sc() => Some(Instruction::Fence { place }),
         Statement::Fence { .. } => None,
     }
 }

@@ -1,10 +1,13 @@
-//! What all programs do at the console: read a program text, and say why they end with an error.
+//! What all programs do at the console: answer a program text, and say why they end with an error.
 #![tactic(auto)]
 
-ghost use Rattle.std.specs.Prelude.{◌≡◌};
+ghost use Rattle.std.specs.Prelude.{◌≡◌, if◌then◌else◌, is_ok};
+ghost use Rattle.std.specs.Process.{exit_status};
 
+use programs::threads::Program;
 use std::io;
 use std::io::Read;
+use std::process::ExitCode;
 
 /// The text on standard input, or as much of it as shows that it is too long. No contract can say what is read.
 pub fn input(rt: &HostRuntime) -> io::Result<Vec<u8>> {
@@ -22,4 +25,25 @@ pub fn ended(rt: &HostRuntime, program: &str, outcome: anyhow::Result<()>) -> an
         let _ = eprintln!(rt; "{program}: {error}");
     }
     outcome
+}
+
+/// Answers the text on standard input: by what is printed of its program, or by the line of its refusal. No contract can say what is printed.
+pub fn answer<F: FnOnce(&Program) -> io::Result<()>>(rt: &HostRuntime, print: F) -> io::Result<()>
+    requires { F.IsAlwaysCallable print }
+{
+    let text = input(rt)?;
+    match reader::read(text.as_slice()) {
+        Ok(program) => print(&program),
+        Err(fault) => println!(rt; "{fault}"),
+    }
+}
+
+/// The exit status of a program that ends with this result.
+pub fn status(rt: &HostRuntime, program: &str, outcome: anyhow::Result<()>) -> ExitCode
+    ensures { exit_status result ≡ (if is_ok outcome then 0 else 1) }
+{
+    match ended(rt, program, outcome) {
+        Ok(()) => ExitCode::SUCCESS,
+        Err(_) => ExitCode::FAILURE,
+    }
 }

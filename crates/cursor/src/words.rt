@@ -5,8 +5,8 @@ ghost use Rattle.std.specs.List.{list_all};
 ghost use Rattle.faults.specs.declared.Fault.{Fault};
 ghost use Rattle.faults.specs.declared.Fault.TheVariants.{WrongWord};
 ghost use Rattle.grammar.specs.Pieces.{Piece, piece};
-ghost use Rattle.grammar.specs.Table.{number, takes};
-ghost use Rattle.grammar.specs.Answer.{register_of, mode_of, read_kind, read_register, read_location, read_operand, read_mode};
+ghost use Rattle.grammar.specs.Table.{number};
+ghost use Rattle.grammar.specs.Answer.{register_of, mode_of, moded, read_kind, read_register, read_location, read_operand, read_mode};
 
 use super::text::*;
 use faults::Fault;
@@ -52,11 +52,14 @@ impl FromWord for Location {
     ghost reads = { read_location };
 
     fn from_word(word: Word) -> Result<Location, Fault> {
-        match word.bytes {
-            b"x" => Ok(Location::X),
-            b"y" => Ok(Location::Y),
-            b"z" => Ok(Location::Z),
-            b"w" => Ok(Location::W),
+        let [letter] = word.bytes else {
+            return Err(word.wrong());
+        };
+        match *letter as char {
+            'x' => Ok(Location::X),
+            'y' => Ok(Location::Y),
+            'z' => Ok(Location::Z),
+            'w' => Ok(Location::W),
             _ => Err(word.wrong()),
         }
     }
@@ -134,27 +137,26 @@ fn mode_named(word: &[u8]) -> Option<Mode>
     }
 }
 
-/// If a statement takes a mode.
-fn takes(kind: Kind, mode: Mode) -> bool
-    ensures { result ≡ takes kind mode }
+/// The mode, if it is one that the statement takes. One match tells an accepted mode, a wrong word and a wrong mode apart.
+fn accepted(kind: Kind, mode: Option<Mode>, offset: usize) -> Result<Mode, Fault>
+    ensures { result ≡ moded kind mode offset }
 {
-    match kind {
-        Kind::Load => !matches!(mode, Mode::Release | Mode::AcquireRelease),
-        Kind::Store => !matches!(mode, Mode::Acquire | Mode::AcquireRelease),
-        Kind::Exchange | Kind::Add => true,
-        Kind::Fence => mode != Mode::Relaxed,
+    match (kind, mode) {
+        (_, None) => Err(Fault::WrongWord { offset }),
+        (Kind::Load, Some(m)) if m == Mode::Release || m == Mode::AcquireRelease => Err(
+            Fault::WrongMode { offset },
+        ),
+        (Kind::Store, Some(m)) if m == Mode::Acquire || m == Mode::AcquireRelease => Err(
+            Fault::WrongMode { offset },
+        ),
+        (Kind::Fence, Some(m)) if m == Mode::Relaxed => Err(Fault::WrongMode { offset }),
+        (_, Some(m)) => Ok(m),
     }
 }
 
-/// The mode that a word names, if the statement takes it.
+/// The mode that a word names, if the statement takes it. No `FromWord`, since it depends on the statement.
 pub(crate) fn mode(kind: Kind, word: Word) -> Result<Mode, Fault>
     ensures { result ≡ read_mode kind (piece word.entry.offset word.entry.bytes.now) }
 {
-    let mode = mode_named(word.bytes).ok_or(word.wrong())?;
-    if !takes(kind, mode) {
-        return Err(Fault::WrongMode {
-            offset: word.offset,
-        });
-    }
-    Ok(mode)
+    accepted(kind, mode_named(word.bytes), word.offset)
 }

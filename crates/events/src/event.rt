@@ -119,7 +119,7 @@ impl Event {
         }
     }
 
-    /// The number of its location; 0 for a fence, which has none.
+    /// The number of its location; 0 for a fence, which has none: the relations look at it only of accesses, so an `Option` would be no plainer.
     pub fn location(self) -> usize
         ensures { result ≡ location_of self }
     {

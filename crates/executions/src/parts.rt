@@ -1,6 +1,6 @@
 //! The parts of a graph, read from a line: for each reading event its number, its source and the value, then behind a `;` each the writes of
 //! x, y, z and w in order.
-use anyhow::bail;
+use anyhow::{Context, bail};
 use events::event::*;
 use graph::graph::Graph;
 use lang::syntax::*;
@@ -8,6 +8,9 @@ use orders::order::Order;
 use programs::bounded::*;
 use programs::parts::*;
 use programs::threads::*;
+
+/// Why a line is refused that ends too early.
+const CUT: &str = "a line of data/ is cut short";
 
 /// What a reading event read, and from which event.
 #[derive(Clone, Copy)]
@@ -32,8 +35,8 @@ fn reads_of(section: &str) -> anyhow::Result<[Option<Read>; STATEMENTS]> {
             bail!("a line of data/ has a read of no statement");
         };
         *read = Some(Read {
-            source: words.next().unwrap_or("").parse()?,
-            value: words.next().unwrap_or("").parse()?,
+            source: words.next().context(CUT)?.parse()?,
+            value: words.next().context(CUT)?.parse()?,
         });
     }
     Ok(reads)
@@ -54,10 +57,10 @@ impl Parts {
     /// The parts that a line gives.
     pub(crate) fn read(line: &str) -> anyhow::Result<Parts> {
         let mut sections = line.split(';');
-        let reads = reads_of(sections.next().unwrap_or(""))?;
+        let reads = reads_of(sections.next().context(CUT)?)?;
         let mut mo = [Order::empty(0); LOCATIONS];
         for order in &mut mo {
-            *order = order_of(sections.next().unwrap_or(""))?;
+            *order = order_of(sections.next().context(CUT)?)?;
         }
         Ok(Parts { reads, mo })
     }
@@ -88,7 +91,7 @@ impl Registers {
         }
     }
 
-    /// The event of a statement, by the value that it reads.
+    /// The event of a statement, by the value that it reads: not asked of `outcomes`, since `is_graph_of` is to compare this with its own.
     fn event(&self, statement: Statement, read: u8) -> Event {
         match statement {
             Statement::Load { location, mode, .. } => Event::Load {

@@ -7,18 +7,18 @@ ghost use Rattle.faults.specs.Refusals.{refusal, refusal_line, side_pass, search
 use std::error::Error;
 use std::fmt;
 
-/// Which of the two ways to run a program refuses.
+/// Which of the two ways to run a program refuses, by the pass of its calls.
 #[derive(Clone, Copy, Debug, PartialEq, Eq)]
 pub enum Side {
-    Machine,
-    Draft,
+    Machine = 4,
+    Draft = 5,
 }
 
-/// Which list a search was for.
+/// Which list a search was for, by the place that its refusals have.
 #[derive(Clone, Copy, Debug, PartialEq, Eq)]
 pub enum Search {
-    Shown,
-    Allowed,
+    Shown = 1,
+    Allowed = 2,
 }
 
 /// Why a call refused. Offsets count the bytes of the text from 0.
@@ -63,10 +63,7 @@ impl Side {
     fn pass(self) -> u8
         ensures { result ≡ side_pass self }
     {
-        match self {
-            Side::Machine => 4,
-            Side::Draft => 5,
-        }
+        self as u8
     }
 }
 
@@ -75,13 +72,11 @@ impl Search {
     fn place(self) -> usize
         ensures { result ≡ search_place self }
     {
-        match self {
-            Search::Shown => 1,
-            Search::Allowed => 2,
-        }
+        self as usize
     }
 }
 
+// Matches and no discriminants: a fault carries where it refuses, and variants with fields have no numbers of their own.
 impl Fault {
     /// The number of the refusal, 1 to 16.
     pub fn number(self) -> u8

@@ -1,17 +1,9 @@
--- The order of a location, by the array of orders: there is one for each of its entries, and none past them.
-use Rattle.std.proofs.Common.{◌≡◌, ℕ, zero, suc, ◌<◌, ◌≤◌, Bool, List, [], ◌∷◌, map, length, get_or, Decides, sym, arith}
-use Rattle.std.proofs.lemmas.List.{get_or-map, get_or_past, length-map}
+-- The locations by their numbers.
+use Rattle.std.proofs.Common.{ℕ, zero, suc, ◌<◌, Bool, [], ◌∷◌, get_or, Decides, arith}
 use Rattle.std.specs.List.{All}
 use Rattle.lang.specs.declared.syntax.Location.{Location}
 use Rattle.lang.specs.declared.syntax.Location.TheVariants.{X, Y, Z, W}
 use Rattle.lang.specs.Numbering.{location_index}
-use Rattle.orders.specs.Orders.{Order, members}
-
-pub order_at : (os : List Order) (l : ℕ) (d : Order) → l < length os → members (get_or os l d) ≡ get_or (map members os) l []
-order_at os l d h = sym (get_or-map members os l d [] h)
-
-pub order_past : (os : List Order) (l : ℕ) → length os ≤ l → get_or (map members os) l [] ≡ []
-order_past os l h = get_or_past (map members os) l [] (omega (arith, length-map os members))
 
 pub index_small : (x : Location) → location_index x < 4
 index_small X = omega arith

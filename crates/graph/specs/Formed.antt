@@ -41,16 +41,16 @@ AllWrites events orders = (l w : ℕ) → writes_to events l w ≡ true → posi
 abbrev pub EachOnce : List (List ℕ) → Type 0
 EachOnce orders = (l i : ℕ) → Stands orders l i → position (slice_index_or orders l []) (slice_index (slice_index_or orders l []) i) ≡ i
 
--- Event w is a write of location l and stands in its order at place i, and at none before.
-abbrev pub StandsFirst : List (Option Event) → List ℕ → ℕ → ℕ → ℕ → Type 0
-StandsFirst events order l i w = (writes_to events l w ≡ true) × (position order w ≡ i)
-
 -- The same of one order and its location.
 pub record OrderFits (events : List (Option Event)) (order : List ℕ) (l : ℕ) : Type 0 where
   pub begins : slice_index order 0 ≡ 32 + l
   pub only : (i : ℕ) → i < length order → writes_to events l (slice_index order i) ≡ true
   pub all : (w : ℕ) → writes_to events l w ≡ true → position order w < length order
   pub once : (i : ℕ) → i < length order → position order (slice_index order i) ≡ i
+
+-- Event w is a write of location l and stands in its order at place i, and at none before.
+abbrev pub StandsFirst : List (Option Event) → List ℕ → ℕ → ℕ → ℕ → Type 0
+StandsFirst events order l i w = (writes_to events l w ≡ true) × (position order w ≡ i)
 
 -- Parts that are those of a graph.
 pub record Formed (events : List (Option Event)) (sources : List (Option ℕ)) (orders : List (List ℕ)) : Type 0 where

@@ -1,2 +1,3 @@
+pub mod Orders
 pub mod Formed
 pub mod Execution

@@ -4,6 +4,7 @@ ghost use Rattle.lang.specs.Numbering.{location_index};
 ghost use Rattle.events.specs.Events.{event_at, read_at, written_at};
 ghost use Rattle.orders.specs.Orders.{members, position};
 ghost use Rattle.graph.specs.Formed.{agree, source_fits, writes_to, StandsFirst, OrderFits, Formed};
+ghost use Rattle.graph.specs.Orders.{order_of};
 
 use events::event::*;
 use lang::syntax::*;
@@ -25,7 +26,7 @@ fn agree(written: Option<Access>, read: Option<Access>) -> bool
     written.is_some() && written == read
 }
 
-impl Parts<'_> {
+impl<'a> Parts<'a> {
     /// The event of a number: of a statement, or an initial write.
     pub(crate) fn event(&self, e: usize) -> Option<Event>
         ensures { result ≡ event_at self.now.events.now e }
@@ -85,37 +86,37 @@ impl Parts<'_> {
     }
 
     /// The order of the writes of a location.
-    pub(crate) fn order(&self, location: Location) -> Order
-        ensures { members result ≡ slice_index_or (map members self.now.mo.now) (location_index location) [] }
+    pub(crate) fn order(&self, location: Location) -> &'a Order
+        ensures { members result.now ≡ order_of self.now.mo.now location }
     {
-        self.mo[location.index()]
+        &self.mo[location.index()]
     }
 
     /// If the order of a location begins with its initial write.
     fn begins(&self, location: Location) -> bool
-        ensures { Decides result (slice_index (slice_index_or (map members self.now.mo.now) (location_index location) []) 0 ≡ 32 + location_index location) }
+        ensures { Decides result (slice_index (order_of self.now.mo.now location) 0 ≡ 32 + location_index location) }
     {
         self.order(location).get(0) == Some((STATEMENTS + location.index()) as u8)
     }
 
     /// If the order of a location holds an event, where that writes to the location.
     fn holds(&self, location: Location, w: usize) -> bool
-        ensures { Decides result (writes_to self.now.events.now (location_index location) w ≡ true → position (slice_index_or (map members self.now.mo.now) (location_index location) []) w < length (slice_index_or (map members self.now.mo.now) (location_index location) [])) }
+        ensures { Decides result (writes_to self.now.events.now (location_index location) w ≡ true → position (order_of self.now.mo.now location) w < length (order_of self.now.mo.now location)) }
     {
         let order = self.order(location);
-        !self.writes_to(location, w) || position(&order, w) < order.len()
+        !self.writes_to(location, w) || position(order, w) < order.len()
     }
 
     /// If an event is a write of a location that stands in its order at a place, and at none before.
     fn stands(&self, location: Location, at: usize, w: usize) -> bool
-        ensures { Decides result (StandsFirst self.now.events.now (slice_index_or (map members self.now.mo.now) (location_index location) []) (location_index location) at w) }
+        ensures { Decides result (StandsFirst self.now.events.now (order_of self.now.mo.now location) (location_index location) at w) }
     {
-        self.writes_to(location, w) && position(&self.order(location), w) == at
+        self.writes_to(location, w) && position(self.order(location), w) == at
     }
 
     /// If the order of a location holds only writes of the location, each once.
     fn holds_only(&self, location: Location) -> bool
-        ensures { Decides result ((i : ℕ) → i < length (slice_index_or (map members self.now.mo.now) (location_index location) []) → StandsFirst self.now.events.now (slice_index_or (map members self.now.mo.now) (location_index location) []) (location_index location) i (slice_index (slice_index_or (map members self.now.mo.now) (location_index location) []) i)) }
+        ensures { Decides result ((i : ℕ) → i < length (order_of self.now.mo.now location) → StandsFirst self.now.events.now (order_of self.now.mo.now location) (location_index location) i (slice_index (order_of self.now.mo.now location) i)) }
     {
         let order = self.order(location);
         order.as_slice().iter().enumerate().all(|(at, write)| self.stands(
@@ -127,14 +128,14 @@ impl Parts<'_> {
 
     /// If the order of a location holds each write of the location.
     fn holds_each(&self, location: Location) -> bool
-        ensures { Decides result ((w : ℕ) → writes_to self.now.events.now (location_index location) w ≡ true → position (slice_index_or (map members self.now.mo.now) (location_index location) []) w < length (slice_index_or (map members self.now.mo.now) (location_index location) [])) }
+        ensures { Decides result ((w : ℕ) → writes_to self.now.events.now (location_index location) w ≡ true → position (order_of self.now.mo.now location) w < length (order_of self.now.mo.now location)) }
     {
         (0..EVENTS).all(|w| self.holds(location, w))
     }
 
     /// If the order of a location is one of all its writes, the initial one first.
     fn order_fits(&self, location: Location) -> bool
-        ensures { Decides result (OrderFits self.now.events.now (slice_index_or (map members self.now.mo.now) (location_index location) []) (location_index location)) }
+        ensures { Decides result (OrderFits self.now.events.now (order_of self.now.mo.now location) (location_index location)) }
     {
         self.begins(location) && self.holds_only(location) && self.holds_each(location)
     }

@@ -6,7 +6,8 @@ ghost use Rattle.graph.specs.Formed.{Formed};
 use events::event::*;
 use orders::order::*;
 
-/// Events by their numbers, the source of each reading event, and for each location the order of its writes.
+/// Events by their numbers, the source of each reading event, and for each location the order of its writes. Events and sources are two
+/// arrays, and no plainer as one: `Graph::new` is handed both, and what fits is said of both.
 #[derive(Clone, Copy)]
 pub struct Graph {
     pub(crate) events: [Option<Event>; STATEMENTS],

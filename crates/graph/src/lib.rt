@@ -2,5 +2,6 @@
 #![tactic(auto)]
 
 mod check;
+pub mod facts;
 pub mod graph;
 pub mod parts;

@@ -27,6 +27,7 @@ impl Graph {
             sources: &sources,
             mo: &mo,
         };
+        // With `then` the proof did not close: in its closure nothing says that the parts fit.
         if parts.fit() {
             Some(Graph {
                 events,
@@ -38,7 +39,7 @@ impl Graph {
         }
     }
 
-    /// Its parts.
+    /// Its parts, of which the questions below are asked as they were before it was a graph.
     fn parts(&self) -> Parts<'_>
         ensures events { result.events.now ≡ self.now.events }
         ensures sources { result.sources.now ≡ self.now.sources }
@@ -83,10 +84,11 @@ impl Graph {
     pub fn order(&self, location: Location) -> Order
         ensures { members result ≡ slice_index_or (map members self.now.mo) (location_index location) [] }
     {
-        self.parts().order(location)
+        *self.parts().order(location)
     }
 
-    /// The place of an event in the order of a location, given by its number; the length of that order where it does not stand in it.
+    /// The place of an event in the order of a location, given by its number; the length of that order where it does not stand in it. Not an
+    /// `Option`, since mo compares any two places; there are no orders above 3.
     pub fn position(&self, l: usize, e: usize) -> usize
         ensures { result ≡ position ((view self.now).mo l) e }
     {

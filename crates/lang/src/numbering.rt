@@ -1,4 +1,4 @@
-//! Locations and registers by number, in the order of their names.
+//! Locations and registers by number, in the order of their names. Two methods of a line each: a trait for both would be no plainer.
 ghost use Rattle.std.specs.Prelude.{◌≡◌, ◌<◌};
 ghost use Rattle.lang.specs.Numbering.{location_index, register_index};
 

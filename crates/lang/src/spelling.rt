@@ -48,6 +48,7 @@ impl Register {
     }
 }
 
+// Three blocks for three types: no type parameter can stand for them, since an `impl` of the library's trait needs a type of this crate.
 impl fmt::Display for Mode {
     ghost output = { λ m. Some (mode_name m) };
 

@@ -26,7 +26,7 @@ fn settle(statement: Option<Statement>, locked: bool, pending: bool) -> bool
         Some(Statement::Store { .. }) => true,
         Some(Statement::Exchange { .. }) => false,
         Some(Statement::Add { .. }) => false,
-        Some(Statement::Fence { mode }) => pending && mode != Mode::SeqCst,
+        Some(Statement::Fence { mode }) => pending && !mode.is_sc(),
     }
 }
 
@@ -50,6 +50,7 @@ pub fn spared_plan(thread: &Thread, below: Plan) -> Plan
 {
     let mut plan = [Placement::NONE; MAX_STATEMENTS];
     let mut pending = false;
+    // A loop, since what is pending goes from place to place: a closure that changes it would tell the proof nothing.
     for (at, placement) in below.iter().enumerate() {
         let (kept, left) = pass(thread.get(at), *placement, pending);
         plan[at] = kept;

@@ -66,7 +66,7 @@ fn print_next(rt: &HostRuntime, code: &mut Iter<'_, Instruction>) -> io::Result<
 
 /// If a statement has no instruction of its own.
 fn is_silent(statement: Statement) -> bool {
-    matches!(statement, Statement::Fence { mode } if mode != Mode::SeqCst)
+    matches!(statement, Statement::Fence { mode } if !mode.is_sc())
 }
 
 /// The lines of a statement, whose instructions come next.
@@ -115,25 +115,14 @@ fn print_program(rt: &HostRuntime, pile: &Pile, program: &Program) -> io::Result
     Ok(())
 }
 
-fn list(rt: &HostRuntime, pile: &Pile) -> io::Result<()> {
-    let text = console::input(rt)?;
-    match reader::read(text.as_slice()) {
-        Ok(program) => print_program(rt, pile, &program),
-        Err(fault) => println!(rt; "{fault}"),
-    }
-}
-
 fn run(rt: &HostRuntime) -> anyhow::Result<()> {
     match asked(rt)? {
-        Some(pile) => list(rt, &pile)?,
+        Some(pile) => console::answer(rt, |program| print_program(rt, &pile, program))?,
         None => println!(rt; "{HELP}")?,
     }
     Ok(())
 }
 
 fn main(rt: HostRuntime) -> ExitCode {
-    match console::ended(&rt, "listing", run(&rt)) {
-        Ok(()) => ExitCode::SUCCESS,
-        Err(_) => ExitCode::FAILURE,
-    }
+    console::status(&rt, "listing", run(&rt))
 }

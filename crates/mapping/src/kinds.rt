@@ -17,18 +17,12 @@ pub fn store_at(thread: &Thread, at: usize) -> bool
 pub fn sc_store_at(thread: &Thread, at: usize) -> bool
     ensures { result ≡ holds_at is_sc_store (body thread.now) at }
 {
-    match thread.get(at) {
-        Some(Statement::Store { mode, .. }) => mode == Mode::SeqCst,
-        _ => false,
-    }
+    matches!(thread.get(at), Some(Statement::Store { mode, .. }) if mode.is_sc())
 }
 
 /// If an sc `ld` stands at a place.
 pub fn sc_load_at(thread: &Thread, at: usize) -> bool
     ensures { result ≡ holds_at is_sc_load (body thread.now) at }
 {
-    match thread.get(at) {
-        Some(Statement::Load { mode, .. }) => mode == Mode::SeqCst,
-        _ => false,
-    }
+    matches!(thread.get(at), Some(Statement::Load { mode, .. }) if mode.is_sc())
 }

@@ -8,8 +8,8 @@ use Rattle.programs.specs.Entries.{entries}
 abbrev pub Order : Type 0
 Order = Bounded ℕ 0 33
 
--- The writes of an order.
-abbrev pub members : Order → List ℕ
+-- The writes of an order, whatever its limits.
+abbrev pub members : {LEAST MOST : ℕ} → Bounded ℕ LEAST MOST → List ℕ
 members o = entries o
 
 -- The place of the first entry that is e; the length where there is none.

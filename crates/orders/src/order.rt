@@ -22,7 +22,7 @@ pub fn place(order: &Order, write: usize) -> Option<usize>
         .position(|member| usize::from(*member) == write)
 }
 
-/// The place of a write in an order; the number of writes where it is not one of them.
+/// The place of a write in an order; the number of writes where it is not one of them, so that mo can compare any two places.
 pub fn position(order: &Order, write: usize) -> usize
     ensures value { result ≡ position (members order.now) write }
     ensures bound { result ≤ 33 }

@@ -1,7 +1,7 @@
 //! What an execution leaves: the outcome of a graph, and if the graph is one of a program.
 #![tactic(auto)]
 
-mod execution;
+mod claim;
 mod order;
 pub mod outcome;
 mod source;

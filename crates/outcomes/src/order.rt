@@ -14,7 +14,7 @@ impl Outcome {
         self.values
     }
 
-    /// Less where this comes first, equal where all values are.
+    /// Less where this comes first, equal where all values are. The derived `cmp` says so by the library's order of lists; this says what that means.
     pub fn compare(&self, other: &Outcome) -> Ordering
         ensures { MatchOrdering result (Precedes self.now.values other.now.values) (self.now.values ≡ other.now.values) (Precedes other.now.values self.now.values) }
     {

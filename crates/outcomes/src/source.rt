@@ -1,20 +1,19 @@
 //! If a graph is one of a program.
-ghost use Rattle.std.specs.Prelude.{◌≡◌, ◌/◌, ◌%◌, ◌<◌, Decides};
+ghost use Rattle.std.specs.Prelude.{◌≡◌, ◌/◌, ◌%◌, Decides};
 ghost use Rattle.programs.specs.Parts.{bodies};
 ghost use Rattle.events.specs.Events.{read_at};
 ghost use Rattle.outcomes.specs.Values.{held, operand_value, value_of};
 ghost use Rattle.outcomes.specs.Source.{event_of, expected, EventFits, GraphOf};
 
-use super::execution::*;
+use super::claim::*;
 use events::event::*;
 use graph::graph::Graph;
 use lang::syntax::*;
 use programs::threads::*;
 
-impl Execution<'_> {
+impl Claim<'_> {
     /// What an operand stands for before an event.
     fn operand_value(&self, e: usize, operand: Operand) -> u8
-        requires { e < 32 }
         ensures { result ≡ operand_value (λ x. held (bodies self.now.program.now) self.now.graph.now.events (e / 8) x (e % 8)) operand }
     {
         match operand {
@@ -29,10 +28,9 @@ impl Execution<'_> {
 
     /// What a statement does as an event, by the values read in the graph.
     fn event_of(&self, e: usize, statement: Statement) -> Event
-        requires { e < 32 }
         ensures { result ≡ event_of statement (λ x. held (bodies self.now.program.now) self.now.graph.now.events (e / 8) x (e % 8)) (value_of (read_at self.now.graph.now.events e)) }
     {
-        let read = self.value_read(e);
+        let read = value_of(self.graph.read(e));
         match statement {
             Statement::Load { location, mode, .. } => Event::Load {
                 location,
@@ -76,7 +74,6 @@ impl Execution<'_> {
 
     /// The event that the program has, by the values read in the graph.
     fn expected(&self, e: usize) -> Option<Event>
-        requires { e < 32 }
         ensures { result ≡ expected (bodies self.now.program.now) self.now.graph.now.events (e / 8) (e % 8) }
     {
         let statement = self
@@ -87,7 +84,6 @@ impl Execution<'_> {
 
     /// If an event is the program's.
     fn event_fits(&self, e: usize) -> bool
-        requires { e < 32 }
         ensures { Decides result (EventFits (bodies self.now.program.now) self.now.graph.now.events (e / 8) (e % 8)) }
     {
         self.graph.event(e) == self.expected(e)
@@ -98,6 +94,6 @@ impl Execution<'_> {
 pub fn is_graph_of(graph: &Graph, program: &Program) -> bool
     ensures { Decides result (GraphOf (bodies program.now) graph.now.events) }
 {
-    let execution = Execution { program, graph };
-    (0..STATEMENTS).all(|e| execution.event_fits(e))
+    let claim = Claim { program, graph };
+    (0..STATEMENTS).all(|e| claim.event_fits(e))
 }

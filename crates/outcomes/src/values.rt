@@ -5,7 +5,7 @@ ghost use Rattle.programs.specs.Parts.{bodies};
 ghost use Rattle.orders.specs.Orders.{members};
 ghost use Rattle.outcomes.specs.Outcomes.{location_value, outcome_value, outcome_of, OutcomeOf};
 
-use super::execution::*;
+use super::claim::*;
 use super::outcome::*;
 use graph::graph::Graph;
 use lang::syntax::*;
@@ -15,7 +15,7 @@ use std::array;
 /// The registers of a thread.
 const REGISTERS: usize = 4;
 
-impl Execution<'_> {
+impl Claim<'_> {
     /// What a location holds at the end: the value of its last write.
     fn location_value(&self, location: Location) -> u8
         ensures { result ≡ location_value self.now.graph.now.events (map members self.now.graph.now.mo) (location_index location) }
@@ -42,8 +42,8 @@ pub fn outcome_of(program: &Program, graph: &Graph) -> Outcome
     ensures value { result.values ≡ outcome_of (bodies program.now) graph.now.events (map members graph.now.mo) }
     ensures meaning { OutcomeOf (bodies program.now) graph.now.events (map members graph.now.mo) result.values }
 {
-    let execution = Execution { program, graph };
+    let claim = Claim { program, graph };
     Outcome {
-        values: array::from_fn(|at| execution.value_at(at)),
+        values: array::from_fn(|at| claim.value_at(at)),
     }
 }

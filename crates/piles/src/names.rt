@@ -1,13 +1,26 @@
 //! The words for mappings and layers.
+ghost use Rattle.std.specs.Prelude.{Some, codes};
 ghost use Rattle.piles.specs.Piled.{base_name, layer_name};
 ghost use Rattle.piles.specs.Names.{Reads};
 
 use super::pile::*;
+use std::error::Error;
+use std::fmt;
 use std::str::FromStr;
 
 /// A word that names nothing of the kind asked for.
-#[derive(Clone, Copy, PartialEq, Eq)]
+#[derive(Clone, Copy, Debug, PartialEq, Eq)]
 pub struct UnknownName;
+
+impl fmt::Display for UnknownName {
+    ghost output = { λ _. Some (codes "no mapping and no layer has this name") };
+
+    fn fmt<W: fmt::Write>(&self, f: &mut fmt::Formatter<W>) -> fmt::Result {
+        f.write_str("no mapping and no layer has this name")
+    }
+}
+
+impl Error for UnknownName {}
 
 /// The published mapping of a name.
 impl FromStr for Base {

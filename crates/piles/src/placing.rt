@@ -13,6 +13,9 @@ use mapping::placement::*;
 use mapping::published::*;
 use programs::threads::Thread;
 
+// Two matches on enums, since a mapping and its layers are named by words when the program runs: closures or `dyn` values for them would have to be
+// made from the words and handed out, which is refused. The layers are gone through by a `for`, which a `fold` would only write otherwise.
+
 /// What a published mapping places at each place of a thread.
 fn base_plan(base: Base, thread: &Thread) -> Plan
     ensures { result ≡ map (base_meaning base (body thread.now)) (range_with_len 0 8) }

@@ -13,12 +13,12 @@ Thread = Bounded Statement 1 8
 abbrev pub Program : Type 0
 Program = Bounded Thread 1 4
 
--- The statements of a thread, in order.
-abbrev pub body : Thread → List Statement
+-- The statements of a thread, in order, whatever the limits.
+abbrev pub body : {LEAST MOST : ℕ} → Bounded Statement LEAST MOST → List Statement
 body t = entries t
 
--- The threads of a program, in order.
-abbrev pub bodies : Program → List (List Statement)
+-- The threads of a program, in order, whatever the limits.
+abbrev pub bodies : {LEAST MOST LOW HIGH : ℕ} → Bounded (Bounded Statement LEAST MOST) LOW HIGH → List (List Statement)
 bodies p = map body (entries p)
 
 -- The statement at a thread and a place, both counted from 0.

@@ -4,7 +4,8 @@ ghost use Rattle.std.specs.Prelude.{◌≡◌, ◌≤◌, length, ⊤};
 use std::alloc::AllocError;
 
 /// At least `LEAST` and at most `MOST` entries, which stand at the front; the cells from `len` on are unused. The library's `ArrayVec`
-/// does not serve: it cannot be copied, and needs a default for the unused cells.
+/// does not serve: it cannot be copied, and needs a default for the unused cells. Nor has it a model as a list: a copy would have to get the
+/// unused cells back from that.
 pub struct Bounded<T, const LEAST: usize, const MOST: usize> {
     pub(crate) cells: [T; MOST],
     pub(crate) len: usize,

@@ -1,14 +1,26 @@
 //! Lists of limited length, made and read.
-ghost use Rattle.std.specs.Prelude.{◌≡◌, ◌-◌, ◌<◌, ◌≤◌, false, [], ◌∷◌, ◌++◌, length, is_ok, if◌then◌else◌, Some, None, nat_le, nat_lt};
+ghost use Rattle.std.specs.Prelude.{◌≡◌, ◌-◌, ◌<◌, ◌≤◌, false, [], ◌∷◌, ◌++◌, length, is_ok, if◌then◌else◌, Some, None, nat_le, nat_lt, codes};
 ghost use Rattle.std.specs.List.{slice_get};
 ghost use Rattle.std.specs.Option.{option_map};
 ghost use Rattle.programs.specs.Entries.{entries};
 
 use super::bounded::*;
+use std::error::Error;
+use std::fmt;
 
 /// There is no room for one more.
-#[derive(Clone, Copy, PartialEq, Eq)]
+#[derive(Clone, Copy, Debug, PartialEq, Eq)]
 pub struct Full;
+
+impl fmt::Display for Full {
+    ghost output = { λ _. Some (codes "there is no room for one more") };
+
+    fn fmt<W: fmt::Write>(&self, f: &mut fmt::Formatter<W>) -> fmt::Result {
+        f.write_str("there is no room for one more")
+    }
+}
+
+impl Error for Full {}
 
 impl<T: Copy, const MOST: usize> Bounded<T, 0, MOST> {
     /// No entries; the blank stands in the unused cells.
@@ -74,7 +86,7 @@ impl<T: Copy, const LEAST: usize, const MOST: usize> Bounded<T, LEAST, MOST> {
         ensures low_bound { LEAST ≤ result }
         ensures high_bound { result ≤ MOST }
     {
-        self.len
+        self.as_slice().len()
     }
 
     /// The entry at a place, if there is one.

@@ -24,24 +24,21 @@ impl Bounded<Thread, 1, MAX_THREADS> {
         ensures value { result ≡ statement_count (bodies self.now) thread }
         ensures bound { result ≤ 8 }
     {
-        self.get(thread).map_or(0, |thread| thread.len())
+        self.as_slice().get(thread).map_or(0, |thread| thread.len())
     }
 
     /// The statement at a thread and a place, if there is one.
     pub fn statement(&self, thread: usize, place: usize) -> Option<Statement>
         ensures { result ≡ statement_at (bodies self.now) thread place }
     {
-        self.get(thread)?.get(place)
+        self.as_slice().get(thread)?.get(place)
     }
 
     /// The number of the event at a thread and a place, 8 × thread + place, if there is a statement.
     pub fn event(&self, thread: usize, place: usize) -> Option<usize>
         ensures { result ≡ (if nat_lt place (statement_count (bodies self.now) thread) then Some (event_number thread place) else None) }
     {
-        if thread < MAX_THREADS && place < self.statements(thread) {
-            Some(MAX_STATEMENTS * thread + place)
-        } else {
-            None
-        }
+        let is_there = thread < MAX_THREADS && place < self.statements(thread);
+        is_there.then(|| MAX_STATEMENTS * thread + place)
     }
 }

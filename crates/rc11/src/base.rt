@@ -1,7 +1,7 @@
 //! The relations that make up hb, and rb and eco.
 ghost use Rattle.std.specs.Prelude.{◌≡◌};
 ghost use Rattle.graph.specs.Execution.{view};
-ghost use Rattle.consistency.specs.Computed.{sb_rows, rf_rows, mo_rows, rb_rows, eco_rows, sequence_rows, releases_rows, acquires_rows, sw_rows, hb_rows, keeps_1, keeps_3};
+ghost use Rattle.consistency.specs.Computed.{sb_rows, rf_rows, mo_rows, rb_rows, eco_rows, sequence_rows, releases_rows, acquires_rows, sw_rows, hb_rows, keeps_1};
 
 use bases::pairs;
 use bases::sets::*;
@@ -10,16 +10,14 @@ use relations::closure::*;
 use relations::questions::*;
 use relations::rows::*;
 
-/// A graph with its sb, rf and mo.
+/// A graph with its sb and rf.
 #[derive(Clone, Copy)]
 pub(crate) struct Base<'g> {
     pub(crate) graph: &'g Graph,
     pub(crate) sb: Relation,
     pub(crate) rf: Relation,
-    pub(crate) mo: Relation,
     ghost sb_is: { sb.rows ≡ sb_rows (view graph.now) },
     ghost rf_is: { rf.rows ≡ rf_rows (view graph.now) },
-    ghost mo_is: { mo.rows ≡ mo_rows (view graph.now) },
 }
 
 impl<'g> Base<'g> {
@@ -31,26 +29,27 @@ impl<'g> Base<'g> {
             graph,
             sb: pairs::sb(graph),
             rf: pairs::rf(graph),
-            mo: pairs::mo(graph),
         }
     }
 
     /// rb: from a read to the writes after its source, but not to itself.
     #[tactic(auto, unfolding(consistency::specs::Computed::rb_rows))]
-    pub(crate) fn reads_before(&self) -> Relation
+    pub(crate) fn reads_before(&self, mo: &Relation) -> Relation
+        requires { mo.now.rows ≡ mo_rows (view self.now.graph.now) }
         ensures { result.rows ≡ rb_rows (view self.now.graph.now) }
     {
-        let later = self.rf.inverse().then(&self.mo);
+        let later = self.rf.inverse().then(mo);
         later.common(&pairs::apart(self.graph))
     }
 
     /// eco: one or more steps of rf, mo or rb.
     #[tactic(auto, unfolding(consistency::specs::Computed::eco_rows))]
-    pub(crate) fn communication(&self) -> Relation
+    pub(crate) fn communication(&self, mo: &Relation, rb: &Relation) -> Relation
+        requires mo_is { mo.now.rows ≡ mo_rows (view self.now.graph.now) }
+        requires rb_is { rb.now.rows ≡ rb_rows (view self.now.graph.now) }
         ensures { result.rows ≡ eco_rows (view self.now.graph.now) }
     {
-        let later = self.mo.union(&self.reads_before());
-        self.rf.union(&later).closure()
+        self.rf.union(&mo.union(rb)).closure()
     }
 
     /// Release sequences: from a write to itself and to each update that reads from a member.
@@ -104,14 +103,5 @@ impl<'g> Base<'g> {
         ensures { result ≡ keeps_1 (view self.now.graph.now) }
     {
         self.sb.union(&self.rf).closure().is_irreflexive()
-    }
-
-    /// If each update stands in mo directly after its source.
-    #[tactic(auto, unfolding(consistency::specs::Computed::keeps_3))]
-    pub(crate) fn is_atomic(&self) -> bool
-        ensures { result ≡ keeps_3 (view self.now.graph.now) }
-    {
-        let directly = self.mo.without(&self.mo.then(&self.mo));
-        self.rf.to(updates(self.graph)).is_within(&directly)
     }
 }

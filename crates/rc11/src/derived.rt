@@ -1,7 +1,7 @@
 //! The relations that are made with hb and eco: scb and psc.
 ghost use Rattle.std.specs.Prelude.{◌≡◌};
 ghost use Rattle.graph.specs.Execution.{view};
-ghost use Rattle.consistency.specs.Computed.{hb_rows, eco_rows, scb_rows, unshared_rows, psc_base_rows, psc_fence_rows, psc_rows, keeps_2, keeps_4};
+ghost use Rattle.consistency.specs.Computed.{mo_rows, rb_rows, hb_rows, eco_rows, scb_rows, unshared_rows, psc_base_rows, psc_fence_rows, psc_rows, keeps_2, keeps_3, keeps_4};
 
 use super::base::*;
 use bases::pairs;
@@ -10,12 +10,16 @@ use relations::closure::*;
 use relations::questions::*;
 use relations::rows::*;
 
-/// The base with its hb and eco.
+/// The base with its mo, rb, hb and eco.
 #[derive(Clone, Copy)]
 pub(crate) struct Derived<'g> {
     base: Base<'g>,
+    mo: Relation,
+    rb: Relation,
     hb: Relation,
     eco: Relation,
+    ghost mo_is: { mo.rows ≡ mo_rows (view base.graph.now) },
+    ghost rb_is: { rb.rows ≡ rb_rows (view base.graph.now) },
     ghost hb_is: { hb.rows ≡ hb_rows (view base.graph.now) },
     ghost eco_is: { eco.rows ≡ eco_rows (view base.graph.now) },
 }
@@ -25,10 +29,14 @@ impl<'g> Derived<'g> {
     pub(crate) fn of(base: Base<'g>) -> Derived<'g>
         ensures { result.base.graph.now ≡ base.entry.graph.now }
     {
+        let mo = pairs::mo(base.graph);
+        let rb = base.reads_before(&mo);
         Derived {
             base,
+            mo,
+            rb,
             hb: base.happens(),
-            eco: base.communication(),
+            eco: base.communication(&mo, &rb),
         }
     }
 
@@ -37,12 +45,12 @@ impl<'g> Derived<'g> {
     fn sc_before(&self) -> Relation
         ensures { result.rows ≡ scb_rows (view self.now.base.graph.now) }
     {
-        let Base { graph, sb, mo, .. } = &self.base;
-        let sharing = pairs::sharing(graph);
+        let sb = &self.base.sb;
+        let sharing = pairs::sharing(self.base.graph);
         let unshared = sb.without(&sharing);
         let around = unshared.then(&self.hb.then(&unshared));
         let shared = self.hb.common(&sharing);
-        sb.union(&around.union(&shared.union(&mo.union(&self.base.reads_before()))))
+        sb.union(&around.union(&shared.union(&self.mo.union(&self.rb))))
     }
 
     /// psc, first form: scb between sc events, or sc fences before and after.
@@ -81,6 +89,16 @@ impl<'g> Derived<'g> {
         ensures { result ≡ keeps_2 (view self.now.base.graph.now) }
     {
         self.hb.is_irreflexive() && self.hb.then(&self.eco).is_irreflexive()
+    }
+
+    /// If each update stands in mo directly after its source.
+    #[tactic(auto, unfolding(consistency::specs::Computed::keeps_3))]
+    pub(crate) fn is_atomic(&self) -> bool
+        ensures { result ≡ keeps_3 (view self.now.base.graph.now) }
+    {
+        let directly = self.mo.without(&self.mo.then(&self.mo));
+        let updating = self.base.rf.to(updates(self.base.graph));
+        updating.is_within(&directly)
     }
 
     /// If psc has no cycle.

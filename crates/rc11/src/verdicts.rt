@@ -30,7 +30,7 @@ fn judge(graph: &Graph) -> Verdict
     require(base.has_no_thin_air(), Rule::NoThinAir)?;
     let derived = Derived::of(base);
     require(derived.is_coherent(), Rule::Coherence)?;
-    require(base.is_atomic(), Rule::Atomicity)?;
+    require(derived.is_atomic(), Rule::Atomicity)?;
     require(derived.is_sc_ordered(), Rule::ScOrder)
 }
 

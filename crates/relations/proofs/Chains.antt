@@ -1,14 +1,15 @@
 -- What `fold` and `all` give over the events below n, by the recursions of specs/Rows.
-use Rattle.std.proofs.Common.{◌≡◌, ℕ, suc, ◌<◌, ◌≤◌, Bool, true, false, Option, None, List, [], ◌∷◌, MatchBool, MatchOption, sym, ap, ◌∙◌, subst, zero-add, length, arith}
+use Rattle.std.proofs.Common.{◌≡◌, ℕ, suc, ◌<◌, ◌≤◌, Bool, true, false, Option, None, List, [], ◌∷◌, MatchOption, sym, ap, ◌∙◌, subst, arith}
 use denote.Param.Members.{Mut, Called}
 use Rattle.std.specs.declared.ops.Range.{Range}
 use Rattle.std.specs.Iterator.{Yields, YieldsThen, FoldTurn, FoldsItems}
-use Rattle.std.specs.List.{AllWithin, HoldsAt, FoldsTo, range_with_len}
+use Rattle.std.specs.List.{FoldsTo}
 use Rattle.std.proofs.iter.Yields.{nat_range_steps}
-use Rattle.std.proofs.lemmas.Iterator.{YieldsList-from_range, cases_from_all}
-use Rattle.std.proofs.lemmas.List.FromFn.{length-range_with_len, get_or-range_with_len}
+use Rattle.std.proofs.lemmas.Bool.Decides.{same_from_decides}
+use Rattle.std.proofs.lemmas.Iterator.{YieldsList-from_range}
+use Rattle.lang.proofs.Asking.{decided_below}
 use Rattle.relations.specs.Rows.{every}
-use Rattle.relations.proofs.Every.{every_tells, every_fails}
+use Rattle.relations.proofs.Every.{every_tells}
 
 -- A fold over a value that is seen as w k before event k, and as w (k + 1) after it.
 module _ {F B C : Type 0} (g : Mut F (B × (ℕ × Unit {0})) B) (f : F) (seen : B → C) (w : ℕ → C) (n : ℕ) (gives : (k : ℕ) (b r : B) (q : F) → k < n → seen b ≡ w k → Called g f (b, (k, tt)) r q → (seen r ≡ w (suc k)) × (q ≡ f)) where
@@ -26,14 +27,10 @@ module _ {F B C : Type 0} (g : Mut F (B × (ℕ × Unit {0})) B) (f : F) (seen :
       let first : 0 ≡ s.start = sym (ap (λ (v : Range ℕ). v.start) e) in
       fold_from h.0 s h.2.1.0 h.2.0 b r h.1 (ap (λ (v : Range ℕ). v.end) e) (omega arith) (p ∙ ap w first) h.2.1.1 h.2.1.2 h.3
 
--- `all` of a test, by its cases.
-decided : (p : ℕ → Bool) (n : ℕ) (r : Bool) → MatchBool r (AllWithin (λ k. p k ≡ true) (range_with_len 0 n) 0 (length (range_with_len 0 n))) ((k : ℕ) × (k < length (range_with_len 0 n)) × HoldsAt (λ k. p k ≡ false) (range_with_len 0 n) k) → r ≡ every n p
-decided p n true m = sym ((every_tells n p).1 (λ k l. subst (λ (v : ℕ). p v ≡ true) (get_or-range_with_len 0 n k 0 l ∙ zero-add k) (m k 0 (omega arith) (omega (arith, length-range_with_len 0 n)))))
-decided p n false m =
-    let below : m.0 < n = omega (arith, m.1, length-range_with_len 0 n) in
-    every_fails n p m.0 below (subst (λ (v : ℕ). p v ≡ false) (get_or-range_with_len 0 n m.0 0 below ∙ zero-add m.0) (m.2 0))
-
+-- `all` of a test over the events below n.
 pub all_below : {F : Type 0} (g : Mut F (ℕ × Unit {0}) Bool) (f : F) (p : ℕ → Bool) (n : ℕ) (s u : Range ℕ) (r : Bool) → s ≡ record { start = 0; end = n } → ((k : ℕ) (b : Bool) (q : F) → Called g f (k, tt) b q → (b ≡ p k) × (q ≡ f))
     → (xs : List ℕ) × (o : Option ℕ) × (j : F) × YieldsThen nat_range_steps s xs o u × FoldsTo (λ p x q. Called g p (x, tt) true q) f xs j × MatchOption o (r ≡ true) (λ x. (r ≡ false) × ((h : F) × Called g j (x, tt) false h)) → r ≡ every n p
 all_below g f p n s u r e gives ran =
-    decided p n r (cases_from_all {g = g} u f r (λ k. p k ≡ true) (λ k. p k ≡ false) ran (YieldsList-from_range 0 n n e (omega arith)) (λ x q k. ((gives x true q k).1, sym (gives x true q k).0)) (λ x q k. sym (gives x false q k).0))
+    same_from_decides r (every n p)
+    (decided_below (λ k. p k ≡ true) n u f r ran (YieldsList-from_range 0 n n e (omega arith)) (λ x b q k. let t = gives x b q k in (t.1, (λ y. sym t.0 ∙ y, λ y. t.0 ∙ y))))
+    (every_tells n p)

@@ -10,7 +10,3 @@ every_tells n test = Decides-below_and test (λ k. test k ≡ true) (λ m. every
 
 pub every_below : (n : ℕ) (test : ℕ → Bool) → every n test ≡ true → (k : ℕ) → k < n → test k ≡ true
 every_below n test = (every_tells n test).0
-
--- One that fails is enough.
-pub every_fails : (n : ℕ) (test : ℕ → Bool) (k : ℕ) → k < n → test k ≡ false → false ≡ every n test
-every_fails n test k h e = elim (cases_Bool (every n test)) [ inl t ↦ absurd (both_ways (test k) e (every_below n test t k h)) | inr f ↦ sym f ]

@@ -8,22 +8,13 @@ use Rattle.std.specs.List.{range_with_len}
 use Rattle.std.proofs.lemmas.List.FromFn.{fill_by_all, get_or-map-range_with_len, length-map-range_with_len}
 use Rattle.std.proofs.lemmas.List.{get_or_past}
 use Rattle.std.proofs.lemmas.Bool.{cases_lt}
+use Rattle.lang.proofs.Making.{made_by}
 use Rattle.relations.specs.Rows.{row, rows_by}
 
-module _ {F : Type 0} (g : Mut F (ℕ × Unit {0}) ℕ) (f : F) (h : ℕ → ℕ) (gives : (i y : ℕ) (q : F) → i < 36 → Called g f (i, tt) y q → (y ≡ h i) × (q ≡ f)) where
-  made_from : (ys : List ℕ) (n i k : ℕ) → i + n ≤ 36 → IsFromFnResultFrom g f ys i n → i ≤ k → k < i + n → row ys k ≡ h k
-  made_from ys zero i k fits m from below = absurd (omega arith)
-  made_from ys (suc n) i k fits m from below =
-      let now = gives i m.1 m.0 (omega arith) m.3 in
-      ⊎_elim
-      (λ l. made_from ys n (i + 1) k (omega arith) (subst (λ (q : F). IsFromFnResultFrom g q ys (i + 1) n) now.1 m.4) (omega arith) (omega arith))
-      (λ l. let same : i ≡ k = omega arith in rw (← same) (m.2.1 0 ∙ now.0))
-      (cases_lt i k)
-
-  -- What `array::from_fn` makes of calls that each give what h gives.
-  pub made_all : (ys : List ℕ) → IsFromFnResult g f ys 36 → ys ≡ rows_by h
-  unfolding rows_by
-  made_all ys m = fill_by_all h ys 36 0 m.long (λ k l. made_from ys 36 0 k (omega arith) m.each (omega arith) (omega arith))
+-- What `array::from_fn` makes of calls that each give what h gives.
+pub made_all : {F : Type 0} (g : Mut F (ℕ × Unit {0}) ℕ) (f : F) (h : ℕ → ℕ) → ((i y : ℕ) (q : F) → i < 36 → Called g f (i, tt) y q → (y ≡ h i) × (q ≡ f)) → (ys : List ℕ) → IsFromFnResult g f ys 36 → ys ≡ rows_by h
+unfolding rows_by
+made_all g f h gives ys m = made_by h f ys 36 (λ i y q l k. let t = gives i y q l k in (t.1, t.0)) m
 
 -- It may make them, where a call at each number below 36 is allowed.
 pub made_safely : {F : Type 0} (g : Mut F (ℕ × Unit {0}) ℕ) (f : F) (Pre : F → ℕ → Type 0) → ((i y : ℕ) (q : F) → Called g f (i, tt) y q → q ≡ f) → ((i : ℕ) → i < 36 → Pre f i) → CallableAtEachTurn (index_steps 36) (λ p x q. (y : ℕ) × Called g p (x, tt) y q) Pre 0 f

@@ -30,6 +30,13 @@ pub fn set_of<F: Fn(usize) -> bool>(test: F) -> u64
 }
 
 impl Relation {
+    /// A relation by its rows.
+    pub fn new(rows: [u64; EVENTS]) -> Relation
+        ensures { result.rows ≡ rows }
+    {
+        Relation { rows }
+    }
+
     /// A relation by the row of each event.
     pub fn by_rows<F: Fn(usize) -> u64>(row_of: F) -> Relation
         requires { TakesEach (F.pre row_of) }
@@ -42,7 +49,7 @@ impl Relation {
                 ensures { F.post row_of a result }
             { row_of(a) },
         );
-        Relation { rows }
+        Relation::new(rows)
     }
 
     /// The relation of the pairs that pass a test.

@@ -1,7 +1,7 @@
 //! Reads a program text from standard input and prints its events, one a line, or the line with which it is refused.
 #![tactic(auto)]
 
-use anyhow::anyhow;
+use anyhow::bail;
 use programs::threads::*;
 use std::process::ExitCode;
 use std::{env, io};
@@ -23,17 +23,10 @@ L is x, y, z or w; R is r0 to r3; V is a register or a number from 0 to 255.";
 
 /// If the words on the command line ask for help; no others are taken.
 fn asks_for_help(rt: &HostRuntime) -> anyhow::Result<bool> {
-    let mut words = env::args(rt)?;
-    let _program = words.next();
-    match words.next() {
+    match env::args(rt)?.nth(1) {
         None => Ok(false),
-        Some(word) => {
-            if word.as_str() == "--help" {
-                Ok(true)
-            } else {
-                Err(anyhow!("no word is taken but --help; the program comes on standard input"))
-            }
-        }
+        Some(word) if word.as_str() == "--help" => Ok(true),
+        Some(_) => bail!("no word is taken but --help; the program comes on standard input"),
     }
 }
 
@@ -51,26 +44,15 @@ fn print_program(rt: &HostRuntime, program: &Program) -> io::Result<()> {
     Ok(())
 }
 
-fn report(rt: &HostRuntime) -> io::Result<()> {
-    let text = console::input(rt)?;
-    match reader::read(text.as_slice()) {
-        Ok(program) => print_program(rt, &program),
-        Err(fault) => println!(rt; "{fault}"),
-    }
-}
-
 fn run(rt: &HostRuntime) -> anyhow::Result<()> {
     if asks_for_help(rt)? {
         println!(rt; "{HELP}")?;
     } else {
-        report(rt)?;
+        console::answer(rt, |program| print_program(rt, program))?;
     }
     Ok(())
 }
 
 fn main(rt: HostRuntime) -> ExitCode {
-    match console::ended(&rt, "report", run(&rt)) {
-        Ok(()) => ExitCode::SUCCESS,
-        Err(_) => ExitCode::FAILURE,
-    }
+    console::status(&rt, "report", run(&rt))
 }

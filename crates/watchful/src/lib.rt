@@ -10,6 +10,7 @@ ghost use Rattle.programs.specs.Parts.{body};
 ghost use Rattle.watchful.specs.Meaning.{watchful, preceded};
 ghost use Rattle.watchful.specs.Law.{watchful_fenced, watchful_ended, watchful_stores};
 
+use lang::syntax::Statement;
 use mapping::interface::Mapping;
 use mapping::kinds::*;
 use mapping::placement::Placement;
@@ -23,7 +24,11 @@ pub struct Watchful;
 fn store_before(thread: &Thread, at: usize) -> bool
     ensures { result ≡ preceded (body thread.now) at }
 {
-    (0..at).any(|place| store_at(thread, place))
+    thread
+        .as_slice()
+        .iter()
+        .take(at)
+        .any(|statement| matches!(statement, Statement::Store { .. }))
 }
 
 impl Mapping for Watchful {

@@ -1,7 +1,7 @@
 use Rattle.std.proofs.Common.{sym, ◌∙◌}
 use Rattle.outcomes.proofs.Events.{event_decided}
 use Rattle.outcomes.proofs.Sameness.{same_decided}
-use Rattle.outcomes.proofs.execution.Execution.event_fits.Goals as goal
+use Rattle.outcomes.proofs.claim.Claim.event_fits.Goals as goal
 
 pub returns : goal.returns
 returns c =

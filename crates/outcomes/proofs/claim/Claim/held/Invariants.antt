@@ -1,7 +1,7 @@
 use Rattle.std.proofs.Common.{◌≡◌}
 use Rattle.programs.specs.Parts.{bodies}
 use Rattle.outcomes.specs.Values.{held}
-use Rattle.outcomes.proofs.execution.Execution.held.Given as goal
+use Rattle.outcomes.proofs.claim.Claim.held.Given as goal
 
 -- None of the places from here on reads into the register.
 abbrev pub invariant-loop-at : goal.invariant-loop-at

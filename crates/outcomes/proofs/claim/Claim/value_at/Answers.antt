@@ -3,7 +3,7 @@ use Rattle.std.proofs.lemmas.Bool.{cond-false, le-ltb}
 use Rattle.lang.proofs.Numbers.{number_of}
 use Rattle.orders.specs.Orders.{members}
 use Rattle.outcomes.specs.Outcomes.{location_value}
-use Rattle.outcomes.proofs.execution.Execution.value_at.Goals as goal
+use Rattle.outcomes.proofs.claim.Claim.value_at.Goals as goal
 
 pub returns-else-at-lt-REGISTER_VALUES : goal.returns-else-at-lt-REGISTER_VALUES
 returns-else-at-lt-REGISTER_VALUES c =
