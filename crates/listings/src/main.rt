@@ -2,6 +2,9 @@
 //! and prints the instructions of each thread on a line. The lines to compare with came from a script that the compiler's author wrote.
 #![tactic(auto)]
 
+#[cfg(test)]
+mod hand;
+
 use anyhow::Context;
 use compiler::code::*;
 use compiler::compile;
