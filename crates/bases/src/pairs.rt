@@ -15,9 +15,11 @@ use relations::rows::Relation;
 fn is_sb(graph: &Graph, a: usize, b: usize) -> bool
     ensures { result ≡ is_sb (view graph.now) a b }
 {
-    let both = graph.is_present(a) && graph.is_present(b);
-    let in_thread = a / MAX_STATEMENTS == b / MAX_STATEMENTS && a < b;
-    both && b < STATEMENTS && (in_thread || STATEMENTS <= a)
+    // Each question only where the one before is answered by yes, as in `mo` below.
+    graph.is_present(a)
+        && graph.is_present(b)
+        && b < STATEMENTS
+        && (a / MAX_STATEMENTS == b / MAX_STATEMENTS && a < b || STATEMENTS <= a)
 }
 
 /// sb: from an event to the later ones of its thread, and from an initial write to each statement's.
@@ -41,10 +43,14 @@ pub fn rf(graph: &Graph) -> Relation
 pub fn mo(graph: &Graph) -> Relation
     ensures { result.rows ≡ mo_rows (view graph.now) }
 {
+    // Each question only where the one before is answered by yes: a `let` in front would ask it of every pair.
     Relation::of(|a, b| {
-        let both = graph.is_write(a) && graph.is_write(b);
-        let l = graph.location(a);
-        both && l == graph.location(b) && graph.position(l, a) < graph.position(l, b)
+        graph.is_write(a)
+            && graph.is_write(b)
+            && {
+                let l = graph.location(a);
+                l == graph.location(b) && graph.position(l, a) < graph.position(l, b)
+            }
     })
 }
 

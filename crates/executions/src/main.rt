@@ -23,7 +23,10 @@ fn program_of(rt: &HostRuntime, line: &str) -> anyhow::Result<Program> {
     for byte in line.bytes() {
         text.push(if byte == b'/' { b'\n' } else { byte })?;
     }
-    reader::read(text.as_slice()).context("a line of data/ is no program")
+    // `ok`, since the fault would be printed as the cause.
+    reader::read(text.as_slice())
+        .ok()
+        .context("a line of data/ is no program")
 }
 
 /// The graph of a line, which has to be one of the program.

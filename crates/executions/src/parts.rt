@@ -1,16 +1,12 @@
 //! The parts of a graph, read from a line: for each reading event its number, its source and the value, then behind a `;` each the writes of
 //! x, y, z and w in order.
-use anyhow::{Context, bail};
+use anyhow::bail;
 use events::event::*;
 use graph::graph::Graph;
 use lang::syntax::*;
-use orders::order::Order;
-use programs::bounded::*;
+use orders::order::{self, Order};
 use programs::parts::*;
 use programs::threads::*;
-
-/// Why a line is refused that ends too early.
-const CUT: &str = "a line of data/ is cut short";
 
 /// What a reading event read, and from which event.
 #[derive(Clone, Copy)]
@@ -31,20 +27,22 @@ fn reads_of(section: &str) -> anyhow::Result<[Option<Read>; STATEMENTS]> {
     let mut reads = [None; STATEMENTS];
     let mut words = section.split_whitespace();
     while let Some(event) = words.next() {
-        let Some(read) = reads.get_mut(event.parse::<usize>()?) else {
+        let event: usize = event.parse()?;
+        let read = Read {
+            source: words.next().unwrap_or("").parse()?,
+            value: words.next().unwrap_or("").parse()?,
+        };
+        let Some(noted) = reads.get_mut(event) else {
             bail!("a line of data/ has a read of no statement");
         };
-        *read = Some(Read {
-            source: words.next().context(CUT)?.parse()?,
-            value: words.next().context(CUT)?.parse()?,
-        });
+        *noted = Some(read);
     }
     Ok(reads)
 }
 
 /// The order of the writes that a section names.
 fn order_of(section: &str) -> anyhow::Result<Order> {
-    let mut order = Order::empty(0);
+    let mut order = order::new();
     for word in section.split_whitespace() {
         if order.push(word.parse()?).is_err() {
             bail!("a line of data/ has too many writes");
@@ -54,13 +52,13 @@ fn order_of(section: &str) -> anyhow::Result<Order> {
 }
 
 impl Parts {
-    /// The parts that a line gives.
+    /// The parts that a line gives; a section that is missing names nothing, so that such parts are no graph.
     pub(crate) fn read(line: &str) -> anyhow::Result<Parts> {
         let mut sections = line.split(';');
-        let reads = reads_of(sections.next().context(CUT)?)?;
-        let mut mo = [Order::empty(0); LOCATIONS];
+        let reads = reads_of(sections.next().unwrap_or(""))?;
+        let mut mo = [order::new(); LOCATIONS];
         for order in &mut mo {
-            *order = order_of(sections.next().context(CUT)?)?;
+            *order = order_of(sections.next().unwrap_or(""))?;
         }
         Ok(Parts { reads, mo })
     }

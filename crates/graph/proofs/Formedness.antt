@@ -1,4 +1,4 @@
--- Every graph that exists is formed, as its own fields say; and parts are formed where they fit one by one.
+-- Parts that fit one by one are formed, and the orders of formed parts fit one by one.
 use Rattle.std.proofs.Common.{◌≡◌, ℕ, ◌<◌, Bool, true, List, [], get_or, Decides, Option}
 use Rattle.events.specs.declared.event.Event.{Event}
 use Rattle.graph.specs.Formed.{source_fits, OrderFits, Formed}
@@ -6,7 +6,7 @@ use Rattle.graph.proofs.Fitting.{writes_below_4}
 
 module _ {events : List (Option Event)} {sources : List (Option ℕ)} {orders : List (List ℕ)} where
   -- Sources and orders that fit one by one are those of a graph,
-  formed_from_fits : ((r : ℕ) → r < 32 → source_fits events sources r ≡ true) → ((l : ℕ) → l < 4 → OrderFits events (get_or orders l []) l) → Formed events sources orders
+  pub formed_from_fits : ((r : ℕ) → r < 32 → source_fits events sources r ≡ true) → ((l : ℕ) → l < 4 → OrderFits events (get_or orders l []) l) → Formed events sources orders
   formed_from_fits rf fit =
       record {
         rf = rf;
@@ -17,7 +17,7 @@ module _ {events : List (Option Event)} {sources : List (Option ℕ)} {orders : 
       }
 
   -- and the orders of a graph fit one by one.
-  fits_from_formed : Formed events sources orders → (l : ℕ) → l < 4 → OrderFits events (get_or orders l []) l
+  pub fits_from_formed : Formed events sources orders → (l : ℕ) → l < 4 → OrderFits events (get_or orders l []) l
   fits_from_formed f l h =
       record {
         begins = f.begins l h;

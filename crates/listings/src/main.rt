@@ -63,7 +63,10 @@ fn print_program(rt: &HostRuntime, name: &str, program: &Program) -> io::Result<
 fn print_text(rt: &HostRuntime, name: &str) -> anyhow::Result<()> {
     let path = format!(in rt.alloc(); "{name}.litmus")?;
     let text = fs::read(rt, path.as_str())?;
-    let program = reader::read(text.as_slice()).context("a text in data/ is no program")?;
+    // `ok`, since the fault would be printed as the cause.
+    let program = reader::read(text.as_slice())
+        .ok()
+        .context("a text in data/ is no program")?;
     print_program(rt, name, &program)?;
     Ok(())
 }

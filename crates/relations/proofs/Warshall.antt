@@ -1,9 +1,10 @@
 -- Warshall's passes hold just the pairs of one or more steps.
-use Rattle.std.proofs.Common.{◌≡◌, ℕ, zero, suc, ◌<◌, ◌≤◌, true, ◌&&◌, ◌||◌, ◌⊎◌, List, sym, ap, ◌∙◌, subst, inl, inr, ⊎_elim, arith}
-use lib.Bits.{bit_or}
+use Rattle.std.proofs.Common.{◌≡◌, ℕ, zero, suc, ◌<◌, ◌≤◌, true, ◌&&◌, ◌||◌, ◌⊎◌, List, length, refl, sym, ap, ◌∙◌, subst, inl, inr, ⊎_elim, arith}
+use lib.Bits.{bit_or, or_zero_r}
 use Rattle.std.proofs.lemmas.Bool.{cases_lt, cond_both, or_cases, or_left, or_right, and_from, and_parts}
+use Rattle.std.proofs.lemmas.List.FromFn.{fill_by_all}
 use Rattle.relations.specs.Algebra.{Plus, last, next}
-use Rattle.relations.specs.Rows.{has, row, related, joined, passed, passes}
+use Rattle.relations.specs.Rows.{has, row, related, rows_by, joined, passed, passes}
 use Rattle.relations.proofs.Bits.{has_or}
 use Rattle.relations.proofs.Filling.{row_by}
 
@@ -17,6 +18,13 @@ has_joined pivot k line b =
 related_passed : (r : List ℕ) (k a b : ℕ) → a < 36 → related (passed r k) a b ≡ (related r a b || (related r a k && related r k b))
 unfolding passed
 related_passed r k a b h = ap (λ (v : ℕ). has v b) (row_by (λ e. joined (row r k) k (row r e)) a h) ∙ has_joined (row r k) k (row r a) b
+
+-- The pass over an event that is related to nothing changes no row.
+pub passed_by_none : (r : List ℕ) (k : ℕ) → length r ≡ 36 → row r k ≡ 0 → r ≡ passed r k
+unfolding passed rows_by
+passed_by_none r k long none =
+    fill_by_all (λ a. joined (row r k) k (row r a)) r 36 0 long
+    (λ a h. sym (ap (λ (p : ℕ). joined p k (row r a)) none ∙ cond_both (has (row r a) k) (bit_or (row r a) 0) (row r a) (λ v. v ≡ row r a) (λ t. or_zero_r (row r a)) (λ t. refl)))
 
 -- Before pass k: only steps of R, all of R, and for two steps that meet below k the one from end to end.
 pub record Closed (R : ℕ → ℕ → Type 0) (rows : List ℕ) (k : ℕ) : Type 0 where

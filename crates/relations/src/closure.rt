@@ -13,13 +13,16 @@ fn joined(pivot: u64, k: usize, line: u64) -> u64
     if has(line, k) { line | pivot } else { line }
 }
 
-/// One pass over the rows.
-#[tactic(auto, unfolding(crate::specs::Rows::passed))]
+/// One pass over the rows. Where the pivot is related to nothing, as in a graph each number without an event is, they stay as they are.
+#[tactic(auto, using(crate::proofs::Warshall::passed_by_none), unfolding(crate::specs::Rows::passed))]
 fn pass(relation: &Relation, k: usize) -> Relation
     requires { k < 36 }
     ensures { result.rows ≡ passed relation.now.rows k }
 {
     let pivot = relation.rows[k];
+    if pivot == 0 {
+        return *relation;
+    }
     Relation::by_rows(|a| joined(pivot, k, relation.rows[a]))
 }
 
