@@ -86,7 +86,10 @@ impl Claim<'_> {
     fn event_fits(&self, e: usize) -> bool
         ensures { Decides result (EventFits (bodies self.now.program.now) self.now.graph.now.events (e / 8) (e % 8)) }
     {
-        self.graph.event(e) == self.expected(e)
+        match self.expected(e) {
+            Some(event) => self.graph.event(e) == Some(event),
+            None => self.graph.event(e).is_none(),
+        }
     }
 }
 
