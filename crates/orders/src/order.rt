@@ -38,6 +38,7 @@ pub fn place(order: &Order, write: usize) -> Option<usize>
 }
 
 /// The place of a write in an order; the number of writes where it is not one of them, so that mo can compare any two places.
+#[tactic(auto, using(crate::proofs::Placing::position_or_length))]
 pub fn position(order: &Order, write: usize) -> usize
     ensures value { result ≡ position (members order.now) write }
     ensures bound { result ≤ 33 }

@@ -86,6 +86,7 @@ impl Claim<'_> {
     fn event_fits(&self, e: usize) -> bool
         ensures { Decides result (EventFits (bodies self.now.program.now) self.now.graph.now.events (e / 8) (e % 8)) }
     {
+        // Most numbers have no statement: there nothing is compared, and it is only asked if an event stands.
         match self.expected(e) {
             Some(event) => self.graph.event(e) == Some(event),
             None => self.graph.event(e).is_none(),
